@@ -1,0 +1,13 @@
+pub mod Padded
+pub mod Slices
+pub mod Fields
+pub mod Records
+pub mod Advance
+pub mod Passing
+pub mod Unique
+pub mod Sofar
+pub mod Back
+pub mod Puts
+pub mod Spelling
+pub mod Rows
+pub mod Rewritten

@@ -1,0 +1,10 @@
+pub mod Faults
+pub mod Tests
+pub mod Calls
+pub mod Format
+pub mod Reading
+pub mod Parts
+pub mod Progress
+pub mod Whole
+pub mod Strip
+pub mod Writing
