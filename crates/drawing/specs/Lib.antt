@@ -1,0 +1,4 @@
+pub mod Tests
+pub mod Held
+pub mod Drawn
+pub mod Backward

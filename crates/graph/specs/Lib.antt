@@ -1,0 +1,4 @@
+pub mod Nets
+pub mod Searches
+pub mod Costs
+pub mod Finding
