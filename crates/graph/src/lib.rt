@@ -49,8 +49,8 @@ pub fn search<K, G: Graph<K>>(
     starts: &[u8],
     scratch: &mut [u8],
 ) -> Result<bool, SearchRefusal>
-    ensures answers { Answers (net graph.now) goal starts.now scratch.old result }
-    ensures leaves { Leaves (net graph.now).cells scratch.old scratch.new result }
+    ensures answers { Answers (G.net graph.now) goal starts.now scratch.old result }
+    ensures leaves { Leaves (G.net graph.now).cells scratch.old scratch.new result }
 {
     let outcome = search_counted(graph, goal, starts, scratch)?;
     Ok(outcome.reached)
@@ -64,9 +64,9 @@ pub fn search_counted<K, G: Graph<K>>(
     starts: &[u8],
     scratch: &mut [u8],
 ) -> Result<Outcome, SearchRefusal>
-    ensures answers { Answers (net graph.now) goal starts.now scratch.old (answer_of result) }
-    ensures leaves { Leaves (net graph.now).cells scratch.old scratch.new (answer_of result) }
-    ensures linear { Linear (net graph.now) starts.now result }
+    ensures answers { Answers (G.net graph.now) goal starts.now scratch.old (answer_of result) }
+    ensures leaves { Leaves (G.net graph.now).cells scratch.old scratch.new (answer_of result) }
+    ensures linear { Linear (G.net graph.now) starts.now result }
 {
     let cells = usize::from(graph.cells());
     if starts.len() < cells || scratch.len() < cells {

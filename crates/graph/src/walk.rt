@@ -17,9 +17,9 @@ pub(crate) fn search_and_wipe<K, G: Graph<K>>(
     starts: &[u8],
     marks: &mut [u8],
 ) -> Result<Outcome, SearchRefusal>
-    requires { ByteEach (net graph.now) starts.now marks.old }
-    ensures answers { Answers (net graph.now) goal starts.now marks.old (answer_of result) }
-    ensures linear { Linear (net graph.now) starts.now result }
+    requires { ByteEach (G.net graph.now) starts.now marks.old }
+    ensures answers { Answers (G.net graph.now) goal starts.now marks.old (answer_of result) }
+    ensures linear { Linear (G.net graph.now) starts.now result }
     ensures wiped { Zeros marks.new }
 {
     let guard = WipeGuard { marks };
@@ -31,9 +31,9 @@ pub(crate) fn search_and_wipe<K, G: Graph<K>>(
 
 /// Finds the starts, and then what the arrows of each cell found lead to, until the goal's turn comes or all have had theirs.
 fn walk_to<K, G: Graph<K>>(graph: &G, goal: u8, starts: &[u8], marks: &mut [u8]) -> Outcome
-    requires { (ByteEach (net graph.now) starts.now marks.old) × (CellOf (net graph.now) goal) }
-    ensures reached { Decides result.reached (Reached (net graph.now) (Marked starts.now) goal) }
-    ensures cost { Cost (net graph.now) starts.now result }
+    requires { (ByteEach (G.net graph.now) starts.now marks.old) × (CellOf (G.net graph.now) goal) }
+    ensures reached { Decides result.reached (Reached (G.net graph.now) (Marked starts.now) goal) }
+    ensures cost { Cost (G.net graph.now) starts.now result }
 {
     let mut found = find_starts(starts, marks);
     let mut next = 0;

@@ -10,12 +10,12 @@ returns g c =
     let starts = c.args.starts.now in
     let scratch = c.args.scratch.now in
     let part = take (c.from-cells.result - 0) scratch in
-    let inner = c.search-and-wipe.ensures in
-    let clean = wiped net.cells c.from-cells.result scratch c.search-and-wipe.new.marks (c.from-cells.ensures ∙ c.cells.ensures) (omega arith) inner.wiped in
+    let inner = c.search_and_wipe.ensures in
+    let clean = wiped net.cells c.from-cells.result scratch c.search_and_wipe.new.marks (c.from-cells.ensures ∙ c.cells.ensures) (omega arith) inner.wiped in
     let fits : Roomy net starts part = (omega arith, omega arith) in
     let roomy : Roomy net starts scratch = (omega arith, omega arith) in
     record {
-      answers = answers_whole net c.args.goal starts part scratch _ fits roomy clean (answer_of c.search-and-wipe.result) inner.answers;
-      leaves = leaves_whole net c.args.goal starts part scratch _ fits roomy clean (answer_of c.search-and-wipe.result) inner.answers;
+      answers = answers_whole net c.args.goal starts part scratch _ fits roomy clean (answer_of c.search_and_wipe.result) inner.answers;
+      leaves = leaves_whole net c.args.goal starts part scratch _ fits roomy clean (answer_of c.search_and_wipe.result) inner.answers;
       linear = inner.linear;
     }

@@ -11,7 +11,7 @@ pub loop-next-init : goal.loop-next-init
 loop-next-init g c =
     let net = g.G.Graph.net c.args.graph.now in
     let starts = c.args.starts.now in
-    let s = subst (λ n. Started n starts c.find-starts-found.new.marks c.find-starts-found.result) c.requires.0.0 c.find-starts-found.ensures in (
+    let s = subst (λ n. Started n starts c.find_starts-found.new.marks c.find_starts-found.result) c.requires.0.0 c.find_starts-found.ensures in (
       front_weaker net.cells (Marked starts) (Reached net (Marked starts)) (start_reached net (Marked starts)) _ _ s.front,
       s.covers,
       λ k h. absurd (omega arith),
@@ -42,8 +42,8 @@ loop-j-preserved g c =
     c.loop-j.invariant.2 c.leads.ensures _ _ c.note.ensures in
     (s.0, grows_on c.loop-j.invariant.1 s.1, s.2, omega arith)
 
-pub overflow-add-next : goal.overflow-add-next
-overflow-add-next g c = let most = front_most _ _ _ _ c.loop-next.invariant.0 in omega arith
+pub overflow_add-next : goal.overflow_add-next
+overflow_add-next g c = let most = front_most _ _ _ _ c.loop-next.invariant.0 in omega arith
 
 pub loop-next-smaller : goal.loop-next-smaller
 loop-next-smaller g c = let most = front_most _ _ _ _ c.loop-next.invariant.0 in omega arith
@@ -61,11 +61,11 @@ loop-next-preserved g c =
           (record { other = c.if-cell-goal.false; followed = λ j w. c.loop-j.invariant.2 j (w.0, omega (arith, w.1, c.arrows-last.ensures)) }),
       omega (arith, grows.more),
       omega (arith, c.loop-next.invariant.4, sum_found_next net.arrows c.loop-j.found.cells c.loop-next.next, before, here, c.arrows-last.ensures),
-      omega (arith, c.arrows-last.type-inv),
+      omega (arith, c.arrows-last.type_inv),
     )
 
-pub overflow-add-asked : goal.overflow-add-asked
-overflow-add-asked g c = let most = front_most _ _ _ _ c.loop-next.invariant.0 in omega (arith, c.arrows-last.type-inv, c.loop-next.invariant.5)
+pub overflow_add-asked : goal.overflow_add-asked
+overflow_add-asked g c = let most = front_most _ _ _ _ c.loop-next.invariant.0 in omega (arith, c.arrows-last.type_inv, c.loop-next.invariant.5)
 
 pub returns : goal.returns
 returns g c =

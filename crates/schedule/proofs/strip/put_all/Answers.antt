@@ -3,4 +3,4 @@ use Rattle.schedule.proofs.Puts.{put_middle}
 use Rattle.schedule.proofs.strip.put_all.Goals as goal
 
 pub returns : goal.returns
-returns c = record { next = refl; after = put_middle _ _ _ _ _ c.copy-from-slice.ensures.after (omega arith) }
+returns c = record { next = refl; after = put_middle _ _ _ _ _ c.copy_from_slice.ensures.after (omega arith) }

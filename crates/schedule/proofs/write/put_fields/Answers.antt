@@ -7,19 +7,19 @@ use Rattle.schedule.proofs.Fields.{length-one, length-number, length-field_bytes
 use Rattle.schedule.proofs.Puts.{put_put}
 use Rattle.schedule.proofs.write.put_fields.Goals as goal
 
-pub put-if-at-requires : goal.put-if-at-requires
-put-if-at-requires c = omega (arith, length-field_bytes c.args.fields c.args.record.now, c.requires.1)
+pub put_if-at-requires : goal.put_if-at-requires
+put_if-at-requires c = omega (arith, length-field_bytes c.args.fields c.args.record.now, c.requires.1)
 
-pub put-if-at-requires-2 : goal.put-if-at-requires-2
-put-if-at-requires-2 c = omega (arith, length-field_bytes c.args.fields c.args.record.now, c.requires.1, c.put-if-at.ensures.next)
+pub put_if-at-requires-2 : goal.put_if-at-requires-2
+put_if-at-requires-2 c = omega (arith, length-field_bytes c.args.fields c.args.record.now, c.requires.1, c.put_if-at.ensures.next)
 
-pub put-list-if-at-requires : goal.put-list-if-at-requires
-put-list-if-at-requires c =
-    (c.requires.0, omega (arith, length-field_bytes c.args.fields c.args.record.now, c.requires.1, c.put-if-at.ensures.next, c.put-if-at-2.ensures.next))
+pub put_list_if-at-requires : goal.put_list_if-at-requires
+put_list_if-at-requires c =
+    (c.requires.0, omega (arith, length-field_bytes c.args.fields c.args.record.now, c.requires.1, c.put_if-at.ensures.next, c.put_if-at-2.ensures.next))
 
-pub put-number-if-requires : goal.put-number-if-requires
-put-number-if-requires c =
-    omega (arith, length-field_bytes c.args.fields c.args.record.now, c.requires.1, c.put-if-at.ensures.next, c.put-if-at-2.ensures.next, c.put-list-if-at.ensures.next)
+pub put_number_if-requires : goal.put_number_if-requires
+put_number_if-requires c =
+    omega (arith, length-field_bytes c.args.fields c.args.record.now, c.requires.1, c.put_if-at.ensures.next, c.put_if-at-2.ensures.next, c.put_list_if-at.ensures.next)
 
 pub returns : goal.returns
 returns c =
@@ -34,10 +34,10 @@ returns c =
     let ly = length-one f.second r.second in
     let ln = length-number f.steps r.steps in
     let old = c.args.strip.now in
-    let one = c.put-if-at in
-    let two = c.put-if-at-2 in
-    let three = c.put-list-if-at in
-    let four = c.put-number-if in
+    let one = c.put_if-at in
+    let two = c.put_if-at-2 in
+    let three = c.put_list_if-at in
+    let four = c.put_number_if in
     record {
       next = omega (arith, all, one.ensures.next, two.ensures.next, three.ensures.next, four.ensures.next);
       after =

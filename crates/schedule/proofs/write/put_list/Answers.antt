@@ -16,20 +16,20 @@ written c =
     let eight : length c.args.list.now.cells ≡ 8 = search rules in
     front c.from.result c.args.list.now.count c.args.list.now.cells c.from.ensures (omega (arith, c.requires.0))
 
-pub put-all-requires : goal.put-all-requires
-put-all-requires c =
-    let w = written (goal.at.put-all-requires c).After-from in
-    omega (arith, ap length w, c.requires.1, c.put-byte-at.ensures.next)
+pub put_all-requires : goal.put_all-requires
+put_all-requires c =
+    let w = written (goal.at.put_all-requires c).After-from in
+    omega (arith, ap length w, c.requires.1, c.put_byte-at.ensures.next)
 
 pub returns : goal.returns
 returns c =
     let w = written (goal.at.returns c).After-from in
     record {
-      next = omega (arith, ap length w, c.put-byte-at.ensures.next, c.put-all.ensures.next);
+      next = omega (arith, ap length w, c.put_byte-at.ensures.next, c.put_all.ensures.next);
       after =
-          c.put-all.ensures.after
-          ∙ ap (λ (bs : List ℕ). put c.put-byte-at.result bs c.put-byte-at.new.strip) w
-          ∙ ap (put c.put-byte-at.result (listed c.args.list.now.count c.args.list.now.cells)) c.put-byte-at.ensures.after
-          ∙ put_cons c.args.at c.put-byte-at.result c.args.list.now.count (listed c.args.list.now.count c.args.list.now.cells) c.args.strip.now
-          c.put-byte-at.ensures.next (omega (arith, c.requires.1));
+          c.put_all.ensures.after
+          ∙ ap (λ (bs : List ℕ). put c.put_byte-at.result bs c.put_byte-at.new.strip) w
+          ∙ ap (put c.put_byte-at.result (listed c.args.list.now.count c.args.list.now.cells)) c.put_byte-at.ensures.after
+          ∙ put_cons c.args.at c.put_byte-at.result c.args.list.now.count (listed c.args.list.now.count c.args.list.now.cells) c.args.strip.now
+          c.put_byte-at.ensures.next (omega (arith, c.requires.1));
     }

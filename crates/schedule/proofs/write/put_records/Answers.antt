@@ -9,8 +9,8 @@ use Rattle.schedule.proofs.Puts.{put_put, put_nothing}
 use Rattle.schedule.proofs.Rows.{blank, split_length}
 use Rattle.schedule.proofs.write.put_records.Goals as goal
 
-pub put-record-place-requires : goal.put-record-place-requires
-put-record-place-requires c =
+pub put_record-place-requires : goal.put_record-place-requires
+put_record-place-requires c =
     let xs = c.args.records.now in
     let i = c.loop-record.record-index in
     let e = drop_more xs i blank c.loop-record-test.true in (
@@ -28,9 +28,9 @@ loop-record-preserved c =
     let e = drop_more xs i blank c.loop-record-test.true in
     let n = split_length b (drop i xs) x rest e in (
       (subst AllWritable e c.loop-record.invariant.0).1,
-      omega (arith, n, c.loop-record.invariant.1, c.put-record-place.ensures.next),
-      ap (put c.put-record-place.result (records_bytes (Some x.worker) rest)) c.put-record-place.ensures.after
-          ∙ put_put c.loop-record.place c.put-record-place.result (record_bytes b x) (records_bytes (Some x.worker) rest) c.loop-record.strip c.put-record-place.ensures.next
+      omega (arith, n, c.loop-record.invariant.1, c.put_record-place.ensures.next),
+      ap (put c.put_record-place.result (records_bytes (Some x.worker) rest)) c.put_record-place.ensures.after
+          ∙ put_put c.loop-record.place c.put_record-place.result (record_bytes b x) (records_bytes (Some x.worker) rest) c.loop-record.strip c.put_record-place.ensures.next
           (omega (arith, n, c.loop-record.invariant.1, c.requires.1))
           ∙ ap (λ (l : List CallRecord). put c.loop-record.place (records_bytes b l) c.loop-record.strip) (sym e)
           ∙ c.loop-record.invariant.2,

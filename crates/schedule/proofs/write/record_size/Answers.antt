@@ -18,7 +18,7 @@ pub returns : goal.returns
 returns c =
     let r = c.args.record.now in
     let f = c.of-fields.result in
-    let g = byte_bit c.worker-differs-given.result in
+    let g = byte_bit c.worker_differs-given.result in
     let x = byte_bit f.cell in
     let y = byte_bit f.second in
     let n = byte_bit f.steps in
@@ -33,10 +33,10 @@ returns c =
         c.from-2.ensures,
         c.from-3.ensures,
         c.from-4.ensures,
-        c.list-size-list.ensures,
-        length-spelt c.args.before r f _ 0 c.of-fields.ensures c.worker-differs-given.ensures,
+        c.list_size-list.ensures,
+        length-spelt c.args.before r f _ 0 c.of-fields.ensures c.worker_differs-given.ensures,
         length-field_bytes f r,
-        length-list f.list r.list (few_cells c.args.before r f _ 0 c.of-fields.ensures c.worker-differs-given.ensures ok),
+        length-list f.list r.list (few_cells c.args.before r f _ 0 c.of-fields.ensures c.worker_differs-given.ensures ok),
       )),
-      omega (arith, g, x, y, n, c.from.ensures, c.from-2.ensures, c.from-3.ensures, c.from-4.ensures, c.list-size-list.ensures, list_small f.list r.list.count small),
+      omega (arith, g, x, y, n, c.from.ensures, c.from-2.ensures, c.from-3.ensures, c.from-4.ensures, c.list_size-list.ensures, list_small f.list r.list.count small),
     )

@@ -13,40 +13,40 @@ use Rattle.schedule.proofs.write.write_schedule.Goals as goal
 four : (n : ℕ) (bs : List ℕ) → n < 2 ^ 32 → bs ≡ (n / 16777216 % 256) ∷ (n / 65536 % 256) ∷ (n / 256 % 256) ∷ (n % 256) ∷ [] → bs ≡ four_bytes n
 four n bs h e = let top : n / 16777216 % 256 ≡ n / 16777216 = omega arith in e ∙ ap (λ k. k ∷ (n / 65536 % 256) ∷ (n / 256 % 256) ∷ (n % 256) ∷ []) top
 
-pub returns-in-err-length : goal.returns-in-err-length
-returns-in-err-length c =
-    let p = err_from_is_err_and c.from-residual.result c.from-residual.ensures.1 in
-    rw (p.1, p.2) (fails_before (records_tests c.args.records.now) _ _ c.in-err-length.ensures, refl)
+pub returns-in_err-length : goal.returns-in_err-length
+returns-in_err-length c =
+    let p = err_from_is_err_and c.from_residual.result c.from_residual.ensures.1 in
+    rw (p.1, p.2) (fails_before (records_tests c.args.records.now) _ _ c.in_err-length.ensures, refl)
 
 pub returns-then-length-gt4096 : goal.returns-then-length-gt4096
 returns-then-length-gt4096 c =
-    let ok = c.in-ok-length.ensures in
+    let ok = c.in_ok-length.ensures in
     (fails_after (records_tests c.args.records.now) _ _ (all_pass c.args.records.now ok.0) (inl ((λ h. omega (arith, h, ok.1)), refl)), refl)
 
 pub returns-then-strip-length : goal.returns-then-strip-length
 returns-then-strip-length c =
-    let ok = c.in-ok-length.ensures in (
+    let ok = c.in_ok-length.ensures in (
       fails_after (records_tests c.args.records.now) _ _ (all_pass c.args.records.now ok.0) (inr (omega (arith, ok.1), inl ((λ h. omega (arith, h, ok.1)), refl))),
       refl,
     )
 
-pub put-all-at-requires : goal.put-all-at-requires
-put-all-at-requires c = omega (arith, c.in-ok-length.ensures.1)
+pub put_all-at-requires : goal.put_all-at-requires
+put_all-at-requires c = omega (arith, c.in_ok-length.ensures.1)
 
 pub returns : goal.returns
 returns c =
     let o = c.args.opening in
     let rs = c.args.records.now in
     let old = c.args.strip.now in
-    let ok = c.in-ok-length.ensures in
+    let ok = c.in_ok-length.ensures in
     let R = records_bytes None rs in
-    let B = c.to-be-bytes.result in
+    let B = c.to_be_bytes.result in
     let small : o.first_round < 2 ^ 32 = search rules in
-    let bytes : B ≡ four_bytes o.first_round = four o.first_round B small c.to-be-bytes.ensures in
+    let bytes : B ≡ four_bytes o.first_round = four o.first_round B small c.to_be_bytes.ensures in
     let lb = ap length bytes in
-    let one = c.put-all-at in
-    let two = c.put-all-at-2 in
-    let three = c.put-records in (
+    let one = c.put_all-at in
+    let two = c.put_all-at-2 in
+    let three = c.put_records in (
       tests_pass o rs (length old) ok.0 (omega (arith, ok.1)) (omega (arith, ok.1)),
       omega (arith, lb, one.ensures.next, two.ensures.next, three.ensures.next),
       three.ensures.after

@@ -3,9 +3,15 @@ use Rattle.lines.specs.Bits.{held}
 use Rattle.lines.specs.Digits.{removed, not_held, and_no}
 use Rattle.lines.proofs.bit_set.BitSet.remove.Goals as goal
 
-pub invariant-of-self : goal.invariant-of-self
-invariant-of-self c =
-    (simp length-set c.args.self.now.four, (removed c.args.self.now.words c.args.cell c.args.self.now.four (omega arith) (sym c.if-contains.ensures) 0 ∙ ap (λ b. not (eqb 0 c.args.cell) && b) c.args.self.now.unused ∙ and_no (not (eqb 0 c.args.cell)), tt))
+pub invariant_of-self : goal.invariant_of-self
+invariant_of-self c =
+    record {
+      four = simp length-set c.args.self.now.four;
+      unused =
+        removed c.args.self.now.words c.args.cell c.args.self.now.four (omega arith) (sym c.if-contains.ensures) 0
+        ∙ ap (λ b. not (eqb 0 c.args.cell) && b) c.args.self.now.unused
+        ∙ and_no (not (eqb 0 c.args.cell));
+    }
 
 pub returns-then-contains : goal.returns-then-contains
 returns-then-contains c = removed c.args.self.now.words c.args.cell c.args.self.now.four (omega arith) (sym c.if-contains.ensures)

@@ -13,24 +13,21 @@ bounds-self-self c =
     let fit : in_range x 255 ≡ true = grind (arith, nat_tests) in
     room o.cells o.count o.long o.fits x o.stands fit (sym (o.marked x) ∙ sym c.if-not-contains.ensures)
 
-pub invariant-of-self : goal.invariant-of-self
-invariant-of-self c =
+pub invariant_of-self : goal.invariant_of-self
+invariant_of-self c =
     let o = c.args.self.now in let x = c.args.cell in let pos = c.if-cell-ge1.true in
     let l = take o.count o.cells in
     let fit : in_range x 255 ≡ true = grind (arith, nat_tests) in
     let out : in_line x l ≡ false = sym (o.marked x) ∙ sym c.if-not-contains.ensures in
     let lt = room o.cells o.count o.long o.fits x o.stands fit out in
     let long = o.long in
-    let e : take (o.count + 1) (set o.cells o.count x) ≡ l ++ x ∷ [] = take_more_set o.cells o.count x (omega arith) in (
-      simp length-set o.long,
-      (
-        omega arith,
-        (
-          ap (orderly 255) e ∙ orderly_push 255 l x o.stands fit out,
-          (λ v. marks_more o.marks.words c.insert.new.self.words l x pos o.marked c.insert.ensures v ∙ sym (ap (in_line v) e), tt),
-        ),
-      ),
-    )
+    let e : take (o.count + 1) (set o.cells o.count x) ≡ l ++ x ∷ [] = take_more_set o.cells o.count x (omega arith) in
+    record {
+      long = simp length-set o.long;
+      fits = omega arith;
+      stands = ap (orderly 255) e ∙ orderly_push 255 l x o.stands fit out;
+      marked = λ v. marks_more o.marks.words c.insert.new.self.words l x pos o.marked c.insert.ensures v ∙ sym (ap (in_line v) e);
+    }
 
 pub returns-then-not-contains : goal.returns-then-not-contains
 returns-then-not-contains c =

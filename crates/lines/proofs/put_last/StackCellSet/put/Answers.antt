@@ -4,10 +4,10 @@ use Rattle.lines.specs.Orders.{order}
 use Rattle.lines.specs.Turned.{orderly_joined, put_turned}
 use Rattle.lines.proofs.put_last.StackCellSet.put.Goals as goal
 
-pub invariant-of-self : goal.invariant-of-self
-invariant-of-self c =
+pub invariant_of-self : goal.invariant_of-self
+invariant_of-self c =
     let s = c.args.self.now in
-    (ap (orderly 100) c.insert.ensures ∙ orderly_joined 255 100 (order s.cells) c.args.cell c.if-cell-le-HIGHEST.true s.low, tt)
+    record { low = ap (orderly 100) c.insert.ensures ∙ orderly_joined 255 100 (order s.cells) c.args.cell c.if-cell-le-HIGHEST.true s.low }
 
 pub returns-then-cell-le-HIGHEST : goal.returns-then-cell-le-HIGHEST
 returns-then-cell-le-HIGHEST c = put_turned (order c.args.self.now.cells) (order c.insert.new.self) c.args.cell c.if-cell-le-HIGHEST.true c.insert.ensures

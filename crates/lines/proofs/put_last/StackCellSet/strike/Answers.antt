@@ -5,10 +5,10 @@ use Rattle.lines.specs.InLine.{orderly_without}
 use Rattle.lines.specs.Turned.{without_turned}
 use Rattle.lines.proofs.put_last.StackCellSet.strike.Goals as goal
 
-pub invariant-of-self : goal.invariant-of-self
-invariant-of-self c =
+pub invariant_of-self : goal.invariant_of-self
+invariant_of-self c =
     let s = c.args.self.now in
-    (ap (orderly 100) c.remove.ensures ∙ orderly_without 100 (order s.cells) c.args.cell s.low, tt)
+    record { low = ap (orderly 100) c.remove.ensures ∙ orderly_without 100 (order s.cells) c.args.cell s.low }
 
 pub returns : goal.returns
 returns c = ap reverse c.remove.ensures ∙ without_turned (order c.args.self.now.cells) c.args.cell

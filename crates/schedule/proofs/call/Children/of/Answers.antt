@@ -11,7 +11,7 @@ loop-i-preserved c =
       length-set c.loop-i.place-items i _ ∙ c.loop-i.invariant.0,
       below_more _ _
           (λ k h. let ne : k ≢ i = omega arith in rw get_or-set_other (c.loop-i.invariant.1 k h))
-          (rw get_or-set_same c.place-of.ensures),
+          (rw get_or-set_same c.place_of.ensures),
     )
 
 pub returns : goal.returns

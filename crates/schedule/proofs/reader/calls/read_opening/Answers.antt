@@ -6,4 +6,4 @@ use Rattle.schedule.proofs.reader.calls.read_opening.Goals as goal
 pub returns-in-len6-up : goal.returns-in-len6-up
 returns-in-len6-up c =
     let six : 6 ≤ length c.args.bytes.now = search rules in
-    ((six, omega (arith, ap length (take_rest c.args.bytes.now 6), length-drop 6 c.args.bytes.now)), opening_there c.args.bytes.now _ six (λ i. omega (arith, c.type-inv.bytes i)) c.from-be-bytes-first-round.ensures)
+    ((six, omega (arith, ap length (take_rest c.args.bytes.now 6), length-drop 6 c.args.bytes.now)), opening_there c.args.bytes.now _ six (λ i. omega (arith, c.type_inv.bytes i)) c.from_be_bytes-first_round.ensures)
