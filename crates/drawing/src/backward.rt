@@ -12,9 +12,9 @@ pub struct Backward<G> {
 }
 
 impl<K, G: Graph<K>> Graph<K> for Backward<G> {
-    ghost net = { λ b. backward_net (G.Graph.net b.graph) };
+    ghost net = { λ b. backward_net (G.net b.graph) };
 
-    ghost closed = { λ b. backward_closed (G.Graph.net b.graph) (G.Graph.closed b.graph) };
+    ghost closed = { λ b. backward_closed (G.net b.graph) (G.closed b.graph) };
 
     ghost silent = { Prim.search rules };
 

@@ -79,7 +79,7 @@ impl Graph<Drawn> for Drawing {
 
 /// The number of arrows of a graph.
 pub fn arrows_in<K, G: Graph<K>>(graph: &G) -> u32
-    ensures { result ≡ all_arrows (net graph.now) }
+    ensures { result ≡ all_arrows (G.net graph.now) }
 {
     let mut sum = 0;
     for x in 0..graph.cells() {

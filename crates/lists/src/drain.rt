@@ -15,8 +15,8 @@ pub fn drain<L: WaitingLists>(
     n: u16,
     taken: &mut [u8; 255],
 ) -> bool
-    ensures answer { result ≡ takes top worker n }
-    ensures after { sets lists.new ≡ after_drain top (sets lists.old) worker set n }
+    ensures answer { result ≡ takes L.top worker n }
+    ensures after { L.sets lists.new ≡ after_drain L.top (L.sets lists.old) worker set n }
     ensures once { Drained result n taken.old taken.new }
 {
     if !lists.fill(worker, set, n) {

@@ -31,15 +31,15 @@ fn row_of(worker: u8, set: Set) -> Option<usize>
 
 // Whether sets of this kind can carry the cell.
 fn carried<S: CellSet>(cell: u16) -> bool
-    ensures { result ≡ in_range cell S.CellSet.most }
+    ensures { result ≡ in_range cell S.most }
 {
     cell >= 1 && cell <= S::highest_cell() as u16
 }
 
 // The set into which 1, 2, up to `n` were put in turn.
 fn counted_to<S: CellSet>(n: u8) -> S
-    requires { n ≤ S.CellSet.most }
-    ensures { S.CellSet.line result ≡ counted S.CellSet.joins n }
+    requires { n ≤ S.most }
+    ensures { S.line result ≡ counted S.joins n }
 {
     let mut cells = S::empty();
     for below in 0..n {
@@ -51,7 +51,7 @@ fn counted_to<S: CellSet>(n: u8) -> S
 impl<S: CellSet> Table<S> {
     /// Waiting lists whose sets are all empty.
     pub fn new() -> Self
-        ensures { lines line result ≡ no_lines }
+        ensures { lines S.line result ≡ no_lines }
     {
         let empty = S::empty();
         Table { rows: [empty; 24] }
@@ -59,8 +59,8 @@ impl<S: CellSet> Table<S> {
 
     /// As `WaitingLists::fill`: 1, 2, up to `n` are put in turn into the emptied set.
     pub fn fill(&mut self, worker: u8, set: Set, n: u16) -> bool
-        ensures answer { result ≡ takes most worker n }
-        ensures order { lines line self.new ≡ after_fill_lines joins most (lines line self.old) worker set n }
+        ensures answer { result ≡ takes S.most worker n }
+        ensures order { lines S.line self.new ≡ after_fill_lines S.joins S.most (lines S.line self.old) worker set n }
     {
         let Some(row) = row_of(worker, set) else {
             return false;
@@ -74,7 +74,7 @@ impl<S: CellSet> Table<S> {
 
     /// As `WaitingLists::clear`.
     pub fn clear(&mut self, worker: u8, set: Set)
-        ensures { lines line self.new ≡ after_clear_lines (lines line self.old) worker set }
+        ensures { lines S.line self.new ≡ after_clear_lines (lines S.line self.old) worker set }
     {
         if let Some(row) = row_of(worker, set) {
             self.rows[row] = S::empty();
@@ -83,8 +83,8 @@ impl<S: CellSet> Table<S> {
 
     /// As `WaitingLists::put`: a newcomer joins where the kind says, a member keeps its place.
     pub fn put(&mut self, worker: u8, set: Set, cell: u16) -> bool
-        ensures answer { result ≡ takes most worker cell }
-        ensures order { lines line self.new ≡ after_put_lines joins most (lines line self.old) worker set cell }
+        ensures answer { result ≡ takes S.most worker cell }
+        ensures order { lines S.line self.new ≡ after_put_lines S.joins S.most (lines S.line self.old) worker set cell }
     {
         let Some(row) = row_of(worker, set) else {
             return false;
@@ -100,7 +100,7 @@ impl<S: CellSet> Table<S> {
 
     /// As `WaitingLists::strike`: the others keep their order.
     pub fn strike(&mut self, worker: u8, set: Set, cell: u16)
-        ensures { lines line self.new ≡ after_strike_lines (lines line self.old) worker set cell }
+        ensures { lines S.line self.new ≡ after_strike_lines (lines S.line self.old) worker set cell }
     {
         let Some(row) = row_of(worker, set) else {
             return;
@@ -114,7 +114,7 @@ impl<S: CellSet> Table<S> {
 
     /// As `WaitingLists::has`.
     pub fn has(&self, worker: u8, set: Set, cell: u16) -> bool
-        ensures { result ≡ in_line cell (lines line self.now worker set) }
+        ensures { result ≡ in_line cell (lines S.line self.now worker set) }
     {
         let Some(row) = row_of(worker, set) else {
             return false;
@@ -124,7 +124,7 @@ impl<S: CellSet> Table<S> {
 
     /// As `WaitingLists::take`: the member that is next in the kind's order.
     pub fn take(&mut self, worker: u8, set: Set) -> Option<u8>
-        ensures { TookFirst (lines line self.old) worker set result (lines line self.new) }
+        ensures { TookFirst (lines S.line self.old) worker set result (lines S.line self.new) }
     {
         let row = row_of(worker, set)?;
         let mut cells = self.rows[row];
@@ -138,13 +138,13 @@ impl<S: CellSet> Table<S> {
 impl<S: CellSet> WaitingLists for Table<S> {
     const HIGHEST: u8 = S::HIGHEST;
 
-    ghost top = { S.CellSet.most };
+    ghost top = { S.most };
 
-    ghost sets = { λ t. members S.CellSet.most (lines S.CellSet.line t) };
+    ghost sets = { λ t. members S.most (lines S.line t) };
 
-    ghost bounded = { S.CellSet.limits };
+    ghost bounded = { S.limits };
 
-    ghost within = { λ t. members_within S.CellSet.most (lines S.CellSet.line t) };
+    ghost within = { λ t. members_within S.most (lines S.line t) };
 
     fn highest_cell() -> u8 {
         S::highest_cell()

@@ -4,8 +4,8 @@ use Rattle.graph.specs.Nets.{sum_after}
 use Rattle.drawing.proofs.Arrows.{sum_last}
 use Rattle.drawing.proofs.arrows_in.Goals as goal
 
-pub overflow-add-sum : goal.overflow-add-sum
-overflow-add-sum g c = omega arith
+pub overflow_add-sum : goal.overflow_add-sum
+overflow_add-sum g c = omega arith
 
 pub loop-x-preserved : goal.loop-x-preserved
 loop-x-preserved g c = (omega (arith, sum_last (g.G.Graph.net c.args.graph.now).arrows c.loop-x.x, c.loop-x.invariant.0, c.arrows.ensures, c.from-sum.ensures), omega arith)

@@ -23,8 +23,8 @@ bounds-taken-count g c =
     let limit = c.loop-cell.invariant.limit in
     omega arith
 
-pub overflow-add-count : goal.overflow-add-count
-overflow-add-count g c =
+pub overflow_add-count : goal.overflow_add-count
+overflow_add-count g c =
     let lt = fits c.loop-cell.invariant c.in-Some.ensures.0 c.in-Some.ensures.1 in
     let limit = c.loop-cell.invariant.limit in
     search rules
@@ -45,10 +45,10 @@ returns g c =
     let start = sets c.fill.new.self in let now = sets c.loop-cell.lists in
     let ok : takes top w n ≡ true = sym c.if-not-fill.ensures.answer in
     let is : start ≡ filled old w k n = c.if-not-fill.ensures.after ∙ sym (chosen (takes top w n) (filled old w k n) old ok) in
-    let none = c.in-default.ensures.0 in
+    let none = c.in_default.ensures.0 in
     let inv = c.loop-cell.invariant in
     record {
       answer = c.if-not-fill.ensures.answer;
-      after = c.in-default.ensures.1 ∙ emptied inv none old is ∙ chosen (takes top w n) (cleared old w k) old ok;
+      after = c.in_default.ensures.1 ∙ emptied inv none old is ∙ chosen (takes top w n) (cleared old w k) old ok;
       once = (each inv none, inv.later);
     }

@@ -3,10 +3,10 @@ use Rattle.std.proofs.Common.{sym, arith}
 use Rattle.drawing.proofs.Arrows.{yes_within, drawn_more}
 use Rattle.drawing.proofs.table.Drawing.draw.Goals as goal
 
-pub invariant-of-self : goal.invariant-of-self
-invariant-of-self c =
+pub invariant_of-self : goal.invariant_of-self
+invariant_of-self c =
     let d = c.args.self.now in
     let to = yes_within d.count c.args.to (sym c.if-not-has-2.ensures) in
     let s = drawn_more d.count d.arrows d.ends d.few d.held (omega arith) (omega arith) c.from-x.result c.args.to (omega arith) to c.if-self-x-ge255.false
     c.from.result c.from.ensures in
-    (s.0, (s.1, tt))
+    record { few = s.0; held = s.1 }

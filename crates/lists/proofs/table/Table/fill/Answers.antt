@@ -15,5 +15,5 @@ returns g c =
     let new = counted g.S.CellSet.joins n in
     record {
       answer = sym ok;
-      order = writes line t i w k c.counted-to.result new at (search rules) c.counted-to.ensures ∙ chosen (takes top w n) (with_line (rows_lines line t) w k new) (rows_lines line t) ok;
+      order = writes line t i w k c.counted_to.result new at (search rules) c.counted_to.ensures ∙ chosen (takes top w n) (with_line (rows_lines line t) w k new) (rows_lines line t) ok;
     }
