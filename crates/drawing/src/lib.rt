@@ -1,5 +1,7 @@
 //! A graph that is drawn arrow by arrow, to try what works on every graph.
 //! Its tables say by ghost fields that every arrow ends at a cell, and so it is a graph.
+#![tactic(auto)]
+
 ghost use Rattle.std.specs.Prelude.{◌≡◌};
 ghost use Rattle.graph.specs.Nets.{all_arrows};
 ghost use Rattle.drawing.specs.Tests.{within};

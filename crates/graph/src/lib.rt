@@ -1,6 +1,8 @@
 //! Graphs of cells, and one search for all of them: is the goal on a path from some start?
 //! A graph only tells (its cells, a cell's arrows, where an arrow leads), so one table can be several graphs
 //! and a graph can be made from another. The search asks for each arrow at most once and wipes its marks.
+#![tactic(auto)]
+
 ghost use Rattle.std.specs.Prelude.{◌≡◌};
 ghost use Rattle.graph.specs.Nets.{Net, Closed, Silent};
 ghost use Rattle.graph.specs.Searches.{Answers, Leaves, answer_of};

@@ -1,4 +1,6 @@
 //! Drawn graphs: what the search answers on them, what it leaves in the scratch strip, and how many arrows it asks for.
+#![tactic(auto)]
+
 use drawing::backward::Backward;
 use drawing::table::Drawing;
 use drawing::{Drawn, arrows_in};

@@ -1,6 +1,7 @@
 //! Shows schedules in words: the opening numbers, then a line for each call or the fault that ends it.
 //!
 //! It names files as arguments, `-` for standard input; without arguments it reads standard input.
+#![tactic(auto)]
 
 use schedule::fault::{Fault, Placed};
 use schedule::reader::Reader;

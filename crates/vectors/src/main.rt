@@ -1,5 +1,6 @@
 //! Reads many schedules, one a line as hex text after its name, and says of each how many calls it has or
 //! which fault; what is read is written again and compared.
+#![tactic(auto)]
 
 ghost use Rattle.std.specs.Prelude.{◌<◌, IfSome};
 
