@@ -8,6 +8,6 @@ use Rattle.show.proofs.show_calls.Goals as goal
 pub loop-next-smaller : goal.loop-next-smaller
 loop-next-smaller c =
     let p = progress c.loop-next.reader in
-    let q = progress c.next-call.new.self in
+    let q = progress c.next_call.new.self in
     let P : Option Call → Type 0 = λ x. Advances p q (Ok x) in
     falls p q c.in-Some.call (subst P c.in-Some.is c.in-Ok.ensures)

@@ -26,9 +26,9 @@ returns-in-Send c = rw c.in-Send.is c.format-in-Send.ensures.ok
 pub returns-in-Receive : goal.returns-in-Receive
 returns-in-Receive c = rw c.in-Receive.is c.format-in-Receive.ensures.ok
 
-pub returns-in-ok-cells : goal.returns-in-ok-cells
-returns-in-ok-cells c =
-    let cells = c.in-ok-cells.ensures ∙ ap (flat_map spaced) c.as-slice.ensures in
+pub returns-in_ok-cells-in-Make : goal.returns-in_ok-cells-in-Make
+returns-in_ok-cells-in-Make c =
+    let cells = c.in_ok-cells-in-Make.ensures ∙ ap (flat_map spaced) c.as_slice.ensures in
     rw c.in-Make.is
     (IfOk-weaker c.format-in-Make.result _ _
     (λ s h. h ∙ ap (λ (t : List ℕ). by c.in-Make.worker (codes " make cell " ++ (decimal c.in-Make.cell ++ (codes " of" ++ t)))) cells)

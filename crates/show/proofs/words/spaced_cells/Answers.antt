@@ -9,8 +9,8 @@ pub loop-cell-preserved : goal.loop-cell-preserved
 loop-cell-preserved c =
     let xs = c.args.cells.now in
     let i = c.loop-cell.cell-index in
-    c.in-ok-push-str.ensures.bytes
-    ∙ ap (λ (l : List ℕ). string_bytes c.loop-cell.text ++ l) (c.as-str.ensures.value ∙ c.in-ok-next.ensures.ok)
+    c.in_ok-push_str.ensures.bytes
+    ∙ ap (λ (l : List ℕ). string_bytes c.loop-cell.text ++ l) (c.as_str.ensures.value ∙ c.in_ok-next.ensures.ok)
     ∙ ap (λ (l : List ℕ). l ++ spaced (get_or xs i 0)) c.loop-cell.invariant
     ∙ flat_map_more spaced [] (take i xs) (get_or xs i 0)
     ∙ ap (flat_map spaced) (sym (take_more xs i 0 c.loop-cell-test.true))
