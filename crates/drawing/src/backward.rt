@@ -1,7 +1,6 @@
 //! A graph that is made from another.
 ghost use Rattle.drawing.specs.Backward.{backward_net};
-ghost use Rattle.drawing.specs.Turns.{backward_closed};
-ghost use Rattle.std.proofs.Common.{rules};
+ghost use Rattle.drawing.specs.Turns.{backward_closed, backward_silent};
 
 use graph::Graph;
 
@@ -16,7 +15,7 @@ impl<K, G: Graph<K>> Graph<K> for Backward<G> {
 
     ghost closed = { λ b. backward_closed (G.net b.graph) (G.closed b.graph) };
 
-    ghost silent = { Prim.search rules };
+    ghost silent = { λ b. backward_silent (G.net b.graph) };
 
     fn cells(&self) -> u8 {
         self.graph.cells()

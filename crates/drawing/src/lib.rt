@@ -6,7 +6,7 @@ ghost use Rattle.std.specs.Prelude.{◌≡◌};
 ghost use Rattle.graph.specs.Nets.{all_arrows};
 ghost use Rattle.drawing.specs.Tests.{within};
 ghost use Rattle.drawing.specs.Drawn.{net_of, Blank, Draws};
-ghost use Rattle.std.proofs.Common.{rules, arith};
+ghost use Rattle.drawing.specs.Turns.{drawn_closed, drawn_silent};
 
 use graph::Graph;
 
@@ -55,9 +55,9 @@ impl Drawing {
 impl Graph<Drawn> for Drawing {
     ghost net = { λ d. net_of d.count d.arrows d.ends };
 
-    ghost closed = { first_of (Prim.search rules, Prim.grind (arith, Self.row.coded.inj)) };
+    ghost closed = { λ d. drawn_closed d.count d.arrows d.ends d.held };
 
-    ghost silent = { first_of (Prim.search rules, Prim.grind (arith, Self.row.coded.inj)) };
+    ghost silent = { λ d. drawn_silent d.count d.arrows d.ends };
 
     fn cells(&self) -> u8 {
         self.count

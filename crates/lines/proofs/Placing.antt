@@ -1,9 +1,9 @@
 -- A line kept in an array: there is room for a newcomer, and what the first and the last cell of it are.
-use Rattle.std.proofs.Common.{◌≡◌, ℕ, zero, suc, ◌+◌, ◌-◌, ◌<◌, ◌≤◌, Bool, true, false, cond, not, ◌&&◌, ◌||◌, eqb, leb, ◌≢◌, List, [], ◌∷◌, ◌++◌, reverse, length, get_or, take, set, Some, None, Option, sym, refl, ap, ◌∙◌, inl, inr, arith}
+use Rattle.std.proofs.Common.{◌≡◌, ℕ, zero, suc, ◌+◌, ◌-◌, ◌<◌, ◌≤◌, Bool, true, false, cond, not, ◌&&◌, ◌||◌, eqb, leb, List, [], ◌∷◌, ◌++◌, reverse, length, get_or, take, Some, sym, refl, ap, ◌∙◌, inl, inr, arith}
 use Rattle.std.proofs.lemmas.List.{length_push, length-take-le, take_more, reverse-append}
 use Rattle.std.proofs.lemmas.Bool.Decides.{nat_tests, eqb_tells}
 use Rattle.lines.specs.Numbers.{in_range}
-use Rattle.lines.specs.Lines.{in_line, orderly, at_end, joined, without, first}
+use Rattle.lines.specs.Lines.{in_line, orderly, without, first}
 use Rattle.lines.specs.Bits.{held, HeldToo, HeldBut}
 use Rattle.lines.specs.InLine.{in_append, in_without, without_stranger, orderly_push, orderly_without, orderly_lower}
 

@@ -1,11 +1,11 @@
 -- Binary digits: what setting or flipping one does to the numbers that words hold, and where the lowest digit stands.
-use Rattle.std.specs.Prelude.{◌≡◌, ℕ, zero, suc, ◌+◌, ◌*◌, ◌/◌, ◌%◌, ◌^◌, ◌<◌, ◌≤◌, Bool, true, false, cond, not, ◌&&◌, ◌||◌, ◌≢◌, ◌⊎◌, List, [], ◌∷◌, length, set, Some, ◌==◌, bit_or, bit_xor, nat_eq, slice_index, slice_index_or, slice_set, refl}
-use Rattle.std.proofs.Common.{sym, ap₂, ◌∙◌, subst, inl, inr, div-one, pow-suc, mul_comm, mul-one, one-add, arith, get_or-set_same, get_or-set_other}
+use Rattle.std.specs.Prelude.{◌≡◌, ℕ, zero, suc, ◌+◌, ◌*◌, ◌/◌, ◌%◌, ◌^◌, ◌<◌, ◌≤◌, Bool, true, false, cond, not, ◌&&◌, ◌≢◌, ◌⊎◌, List, [], ◌∷◌, length, Some, ◌==◌, bit_or, bit_xor, nat_eq, slice_index, slice_index_or, slice_set, refl}
+use Rattle.std.proofs.Common.{sym, ap₂, ◌∙◌, subst, inl, inr, div-one, pow-suc, one-add, arith, get_or-set_same, get_or-set_other}
 use Rattle.std.proofs.Math.Path.{ap}
 use Rattle.std.proofs.Math.Nat.{zero-div}
 use Rattle.std.specs.Int.Count.{count_trailing_zeros, under}
 use Rattle.std.proofs.Math.Dec.{eqb-zero-suc, eqb-suc-zero, eqb-suc-suc}
-use Rattle.std.proofs.lemmas.Nat.{shr-shr, one_shl, pow_below, or_shr, or_mod, xor_shr, xor_mod, trailing_le}
+use Rattle.std.proofs.lemmas.Nat.{shr-shr, one_shl, or_shr, or_mod, xor_shr, xor_mod}
 use Rattle.std.proofs.lemmas.List.{get_or_past}
 use Rattle.std.proofs.lemmas.Bool.Decides.{nat_tests, eqb_tells, leb_tells}
 use Rattle.lines.specs.Numbers.{in_range}

@@ -1,9 +1,9 @@
 -- Facts of one line: who stands in it after someone joined or left.
-use Rattle.std.specs.Prelude.{◌≡◌, ℕ, zero, suc, ◌+◌, ◌<◌, ◌≤◌, Bool, true, false, cond, not, ◌&&◌, ◌||◌, List, [], ◌∷◌, ◌++◌, Some, None, filter, Option, ◌==◌, nat_eq, refl}
+use Rattle.std.specs.Prelude.{◌≡◌, ℕ, zero, suc, Bool, true, false, cond, not, ◌&&◌, ◌||◌, List, [], ◌∷◌, ◌++◌, Some, None, ◌==◌, nat_eq, refl}
 use Rattle.std.proofs.Common.{sym, ap, ◌∙◌, inl, inr, arith}
 use Rattle.std.proofs.lemmas.Bool.Decides.{nat_tests, eqb_tells}
 use Rattle.lines.specs.Numbers.{in_range}
-use Rattle.lines.specs.Lines.{in_line, orderly, Joining, at_end, joined, counted, without, first, rest}
+use Rattle.lines.specs.Lines.{in_line, orderly, Joining, at_end, at_head, joined, counted, without, first, rest}
 
 -- x has left, and all others are there as before
 pub in_without : (l : List ℕ) (x c : ℕ) → in_line c (without l x) ≡ (not (c == x) && in_line c l)
@@ -130,3 +130,7 @@ orderly_lower n (y ∷ l) h out =
 -- at the end, the newcomer and all others stand
 pub at_end_adds : (l : List ℕ) (x c : ℕ) → in_line c (at_end l x) ≡ (c == x || in_line c l)
 at_end_adds l x c = in_append c l (x ∷ []) ∙ (grind (arith, nat_tests))
+
+-- at the head too
+pub at_head_adds : (l : List ℕ) (x c : ℕ) → in_line c (at_head l x) ≡ (c == x || in_line c l)
+at_head_adds l x c = refl

@@ -1,6 +1,6 @@
 -- The order in which the members of one set will be taken, as a line whose head is next. A kind of set is told by where a newcomer joins.
 -- Assumes nothing.
-use Rattle.std.specs.Prelude.{◌≡◌, ℕ, zero, suc, Bool, true, false, cond, not, ◌&&◌, ◌||◌, List, [], ◌∷◌, ◌++◌, Some, None, filter, Option, ◌==◌, nat_lt}
+use Rattle.std.specs.Prelude.{ℕ, zero, suc, Bool, true, false, cond, not, ◌&&◌, ◌||◌, List, [], ◌∷◌, ◌++◌, Some, None, filter, Option, ◌==◌, nat_lt}
 use Rattle.lines.specs.Numbers.{in_range}
 
 -- Does c stand in the line?

@@ -1,5 +1,5 @@
 -- The members of a set, the lowest first: what a member more, a member less and the lowest mean for that line.
-use Rattle.std.specs.Prelude.{◌≡◌, ℕ, zero, suc, ◌+◌, ◌<◌, ◌≤◌, Bool, true, false, cond, not, ◌&&◌, ◌||◌, ltb, ◌≢◌, ◌⊎◌, List, [], ◌∷◌, ◌++◌, length, Some, None, Option, ◌==◌, nat_le, nat_lt, refl}
+use Rattle.std.specs.Prelude.{◌≡◌, ℕ, zero, suc, ◌<◌, ◌≤◌, Bool, true, false, cond, not, ◌&&◌, ◌||◌, ltb, ◌≢◌, List, [], ◌∷◌, ◌++◌, length, Some, None, Option, ◌==◌, nat_le, nat_lt, refl}
 use Rattle.std.proofs.Math.Path.{sym, ap, ap₂}
 use Rattle.std.proofs.Common.{◌∙◌}
 use Rattle.std.proofs.Math.Logic.{inl, inr}
@@ -11,7 +11,7 @@ use Rattle.lines.specs.Numbers.{in_range}
 use Rattle.lines.specs.Lines.{in_line, orderly, by_number, joined, without, first, rising}
 use Rattle.lines.specs.Bits.{held, Lowest}
 use Rattle.lines.specs.Digits.{held_range}
-use Rattle.lines.specs.InLine.{in_append, orderly_push, without_stranger}
+use Rattle.lines.specs.InLine.{in_append, orderly_push}
 
 -- where a newcomer joins by number, it and all others stand
 pub by_number_adds : (l : List ℕ) (x c : ℕ) → in_line c (by_number l x) ≡ (c == x || in_line c l)
@@ -76,6 +76,9 @@ rising_orderly f m (suc n) le =
       | true ↦ orderly_push m (rising f n) (suc n) ih (grind (arith, nat_tests)) out
       | false ↦ ap (orderly m) (append-nil (rising f n)) ∙ ih
     ]
+
+pub rising_all_orderly : (f : ℕ → Bool) (n : ℕ) → orderly n (rising f n) ≡ true
+rising_all_orderly f n = rising_orderly f n n (omega arith)
 
 -- the line depends on the numbers 1 to n alone
 rising_same : (f g : ℕ → Bool) (n : ℕ) → ((c : ℕ) → 1 ≤ c → c ≤ n → g c ≡ f c) → rising g n ≡ rising f n

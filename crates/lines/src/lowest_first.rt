@@ -4,8 +4,7 @@ ghost use Rattle.std.specs.Prelude.{◌≡◌};
 ghost use Rattle.lines.specs.Bits.{held};
 ghost use Rattle.lines.specs.Lines.{by_number, rising};
 ghost use Rattle.lines.specs.Numbers.{bounded_255};
-ghost use Rattle.std.proofs.Common.{arith};
-ghost use Rattle.lines.specs.Rising.{rising_orderly, by_number_adds};
+ghost use Rattle.lines.specs.Rising.{rising_all_orderly, by_number_adds};
 
 use crate::bit_set::BitSet;
 use crate::cell_set::CellSet;
@@ -21,7 +20,7 @@ impl CellSet for BitSet {
 
     ghost limits = { bounded_255 };
 
-    ghost stands = { λ s. rising_orderly (held s.words) 255 255 (omega arith) };
+    ghost stands = { λ s. rising_all_orderly (held s.words) 255 };
 
     ghost adds = { by_number_adds };
 

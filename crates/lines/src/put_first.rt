@@ -4,7 +4,6 @@ ghost use Rattle.lines.specs.Lines.{at_end};
 ghost use Rattle.lines.specs.Orders.{order};
 ghost use Rattle.lines.specs.Numbers.{bounded_255};
 ghost use Rattle.lines.specs.InLine.{at_end_adds};
-ghost use Rattle.std.proofs.Common.{rules, arith};
 
 use crate::cell_set::CellSet;
 use crate::order::Order;
@@ -20,7 +19,7 @@ impl CellSet for Order {
 
     ghost limits = { bounded_255 };
 
-    ghost stands = { first_of (Prim.search rules, Prim.grind (arith, Self.row.coded.inj)) };
+    ghost stands = { λ s. s.stands };
 
     ghost adds = { at_end_adds };
 

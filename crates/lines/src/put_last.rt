@@ -5,7 +5,7 @@ ghost use Rattle.lines.specs.Lines.{orderly, at_head};
 ghost use Rattle.lines.specs.Orders.{order};
 ghost use Rattle.lines.specs.Numbers.{bounded_100};
 ghost use Rattle.lines.specs.Turned.{orderly_turned};
-ghost use Rattle.std.proofs.Common.{rules, arith};
+ghost use Rattle.lines.specs.InLine.{at_head_adds};
 
 use crate::cell_set::CellSet;
 use crate::order::Order;
@@ -30,7 +30,7 @@ impl CellSet for Stack {
 
     ghost stands = { λ s. orderly_turned 100 (order s.cells) s.low };
 
-    ghost adds = { first_of (Prim.search rules, Prim.grind (arith, Self.row.coded.inj)) };
+    ghost adds = { at_head_adds };
 
     fn highest_cell() -> u8 {
         Self::HIGHEST

@@ -1,10 +1,10 @@
 -- From lines to members: what a call does to the lines tells what it does to the sets.
-use Rattle.std.proofs.Common.{◌≡◌, ℕ, ◌<◌, ◌≤◌, Bool, true, false, cond, not, ◌&&◌, ◌||◌, eqb, leb, List, [], ◌∷◌, Some, None, Option, sym, refl, ap, ◌∙◌, inl, inr, arith}
+use Rattle.std.proofs.Common.{◌≡◌, ℕ, Bool, true, false, cond, ◌&&◌, ◌||◌, eqb, List, [], Some, None, Option, sym, refl, ap, ◌∙◌, arith}
 use mathlib.Core.Path.{fun_ext}
-use Rattle.std.proofs.lemmas.Bool.Decides.{nat_tests, eqb_tells}
+use Rattle.std.proofs.lemmas.Bool.Decides.{nat_tests}
 use Rattle.lists.specs.declared.waiting.Set.{Set}
-use Rattle.lists.specs.Sets.{Sets, set_no, is_worker, in_range, takes, same_set, with_set, filled, cleared, added, struck, after_fill, after_put, Took}
-use Rattle.lines.specs.Lines.{Joining, in_line, orderly, joined, counted, without, first, rest}
+use Rattle.lists.specs.Sets.{is_worker, in_range, takes, same_set, with_set, filled, cleared, added, struck, after_fill, after_put, Took}
+use Rattle.lines.specs.Lines.{Joining, in_line, orderly, joined, counted, rest}
 use Rattle.lists.specs.Tables.{Lines, members, with_line, after_fill_lines, after_clear_lines, after_put_lines, after_strike_lines, TookFirst}
 use Rattle.lines.specs.InLine.{in_joined, in_counted, in_without, stranger, first_none, first_left, first_in}
 use Rattle.lists.proofs.Rows.{same_line}

@@ -1,5 +1,5 @@
 -- What a table of 24 sets means: a line for each worker and set. Assumes nothing.
-use Rattle.std.specs.Prelude.{◌≡◌, ℕ, zero, suc, ◌+◌, ◌-◌, ◌*◌, Bool, true, false, cond, ◌&&◌, eqb, List, [], ◌∷◌, Some, None, Option}
+use Rattle.std.specs.Prelude.{◌≡◌, ℕ, zero, suc, ◌+◌, ◌-◌, ◌*◌, false, cond, ◌&&◌, List, [], ◌∷◌, Some, None, Option}
 use Rattle.std.proofs.Common.{ap}
 use Rattle.lists.specs.declared.waiting.Set.{Set}
 use Rattle.lists.specs.declared.table.Table.{Table}

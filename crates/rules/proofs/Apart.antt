@@ -1,10 +1,10 @@
 -- No cell stands twice in a worker's stack, so the stack fits a table of the cells. Of the worker alone, in step or not.
-use Rattle.std.proofs.Common.{◌≡◌, ℕ, zero, suc, ◌+◌, ◌<◌, ◌≤◌, Bool, true, false, cond, eqb, ◌⊎◌, List, [], ◌∷◌, length, sym, refl, ap, ◌∙◌, subst, inl, inr, arith}
-use Rattle.rules.proofs.Heap.{upd, Colour, white, black, grey, Cells, Is}
+use Rattle.std.proofs.Common.{◌≡◌, ℕ, zero, suc, ◌<◌, ◌≤◌, Bool, true, false, List, [], ◌∷◌, length, sym, refl, ap, ◌∙◌, subst, inl, inr, arith}
+use Rattle.rules.proofs.Heap.{upd, Cells}
 use Rattle.rules.proofs.CellInvariant.{Global}
 use Rattle.rules.proofs.WalkerInvariant.{Mem}
 use Rattle.rules.proofs.Walkers.{Label, idle, l101, l108, l121, l122, l126, l150, l151, l157, l158, l163, l168, l175, l180, l129, l134, l135, l137, Worker, no_cells}
-use Rattle.rules.proofs.WalkerSteps.{Step, InStep, GreyFresh, a101_take, a101_none, a108_scan, a108_skip, a121, a122_take, a122_none, a126_yes, a126_no, a150, a151_take, a151_none, a157_go, a157_no, a158_in, a158_out, a158_end, a163_claim, a163_no, a168_pop, a168_none, a175_paint, a175_no, a180, a129_take, a129_none, a134_white, a134_no, a135_turn, a135_no, a137}
+use Rattle.rules.proofs.WalkerSteps.{Step, GreyFresh, a101_take, a101_none, a108_scan, a108_skip, a121, a122_take, a122_none, a126_yes, a126_no, a150, a151_take, a151_none, a157_go, a157_no, a158_in, a158_out, a158_end, a163_claim, a163_no, a168_pop, a168_none, a175_paint, a175_no, a180, a129_take, a129_none, a134_white, a134_no, a135_turn, a135_no, a137}
 use Rattle.rules.proofs.Moves.{View, Range, Move, step, begin, make, append_child, protect, un_protect, send, receive, receive_again}
 use Rattle.rules.proofs.Invariant.{Inv, bit, sum}
 use Rattle.rules.proofs.Basics.{upd_here, upd_other, upd_at, same?, back, upd_all}

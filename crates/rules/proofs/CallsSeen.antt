@@ -1,36 +1,36 @@
 -- A call on the store is a move of the theory.
-use Rattle.std.proofs.Common.{◌≡◌, ℕ, zero, suc, ◌+◌, ◌-◌, ◌<◌, ◌≤◌, Bool, true, false, cond, not, ◌&&◌, ◌||◌, eqb, ltb, leb, ◌⊎◌, List, [], ◌∷◌, ◌++◌, length, get_or, drop, set, Ok, Err, Result, sym, refl, ap, ◌∙◌, subst, inl, inr, arith, length-append, length-drop, length-set}
+use Rattle.std.proofs.Common.{◌≡◌, ℕ, zero, suc, ◌+◌, ◌-◌, ◌<◌, ◌≤◌, Bool, true, false, cond, ◌&&◌, eqb, ltb, List, [], ◌∷◌, ◌++◌, length, get_or, drop, set, Ok, Err, Result, sym, refl, ap, ◌∙◌, subst, inl, inr, arith, length-append, length-drop, length-set}
 use mathlib.Core.Path.{fun_ext}
 use Rattle.std.proofs.lemmas.Bool.Decides.{nat_tests}
-use Rattle.lists.specs.Sets.{Sets, filled, in_range}
+use Rattle.lists.specs.Sets.{filled, in_range}
 use Rattle.lists.specs.declared.waiting.Set.{Set}
-use Rattle.lists.specs.declared.waiting.Set.TheVariants.{Check, Start, Follow}
-use Rattle.graph.specs.Nets.{Path, stay, walk, Reached}
+use Rattle.lists.specs.declared.waiting.Set.TheVariants.{Check}
+use Rattle.graph.specs.Nets.{Path, stay, walk}
 use Rattle.rules.specs.declared.refusal.Refusal.{Refusal}
 use Rattle.rules.specs.declared.cell.Cell.{Cell}
-use Rattle.rules.specs.declared.cell.Colour.TheVariants.{White, Black, Grey}
+use Rattle.rules.specs.declared.cell.Colour.TheVariants.{White}
 use Rattle.rules.specs.declared.worker.Worker.{Worker}
 use Rattle.rules.specs.declared.worker.Label.{Label}
 use Rattle.rules.specs.declared.worker.Label.TheVariants.{Idle, L101, L108, L121, L122, L126, L150, L151, L157, L158, L163, L168, L175, L180, L129, L134, L135, L137}
-use Rattle.rules.specs.Cells.{no_cell, place, within, with_sources, with_putoff, with_child, made}
+use Rattle.rules.specs.Cells.{no_cell, within, with_sources, with_putoff, with_child, made}
 use Rattle.rules.specs.Workers.{no_worker, label_number, at_label, with_own, with_roots, with_boxes}
-use Rattle.rules.specs.States.{State, cell, worker, with_cell, with_worker, with_sets, idle as is-idle, root as is-root, boxed as in-box, children_of, Reach as Reaches}
-use Rattle.rules.specs.Calls.{Each as All, add_root, drop_root, fill_box, one_source_more, one_putoff_more, risen, received, Creates, AddsChild, GetsChild, Makes, Protects, UnProtects, Sends, Receives, Begins}
+use Rattle.rules.specs.States.{State, cell, worker, with_cell, with_worker, with_sets, root as is-root, boxed as in-box, children_of, Reach as Reaches}
+use Rattle.rules.specs.Calls.{Each as All, add_root, fill_box, one_putoff_more, risen, received, Creates, AddsChild, GetsChild, Makes, Protects, UnProtects, Sends, Receives, Begins}
 use Rattle.rules.specs.Rounds.{Steps}
-use Rattle.rules.specs.Laws.{Told, told_root, told_box, told_children, tell, Event, create as Create, add_child as AddChild, get_child as GetChild, make as Make, protect as Protect, unprotect as UnProtect, send as Send, receive as Receive}
-use Rattle.rules.proofs.Seen.{view, shade, stand, stand_of, seen_worker, seen_cells}
-use Rattle.rules.proofs.Views.{upd_same, made_of, moved_view, rooted_view, boxed_view}
+use Rattle.rules.specs.Laws.{Told, told_root, told_box, told_children, tell, create as Create, add_child as AddChild, get_child as GetChild, make as Make, protect as Protect, unprotect as UnProtect, send as Send, receive as Receive}
+use Rattle.rules.proofs.Seen.{view, shade, stand_of, seen_worker, seen_cells}
+use Rattle.rules.proofs.Views.{upd_same, moved_view, rooted_view, boxed_view}
 use Rattle.rules.proofs.SeenChanges.{see_made, see_source, see_putoff, see_add}
-use Rattle.rules.proofs.Shape.{Each, each_set, CellOk, WorkerOk, Shape, off_set, at_set, range_in, filled_ok}
-use Rattle.rules.proofs.Led.{tables, Leads, stays, moves, Led, led_same}
-use Rattle.rules.proofs.Heap.{upd, Cells, white, Is, Child}
+use Rattle.rules.proofs.Shape.{each_set, CellOk, WorkerOk, Shape, off_set, at_set, range_in, filled_ok}
+use Rattle.rules.proofs.Led.{tables, Leads, moves, Led, led_same}
+use Rattle.rules.proofs.Heap.{upd, Cells, Child}
 use Rattle.rules.proofs.HeapChanges.{add, counts, made as madeBy}
-use Rattle.rules.proofs.Walkers.{idle, begun, Label as Stand, Worker as Walker}
+use Rattle.rules.proofs.Walkers.{idle, begun, Worker as Walker}
 use Rattle.rules.proofs.Moves.{View, Range, Reach, at_root, on, live_box, Move, begin, make, append_child, protect, un_protect, send, receive, receive_again, called, moved, more, root, boxed}
 use Rattle.rules.proofs.Copies.{copies}
 use Rattle.rules.proofs.From1.{from1}
 use Rattle.rules.proofs.Invariant.{Inv}
-use Rattle.rules.proofs.Basics.{upd_here, upd_other, same?, upd_at}
+use Rattle.rules.proofs.Basics.{upd_other, same?, upd_at}
 use Rattle.rules.proofs.Safety.{unprotect_fits, receive_fits, live_kept}
 use Rattle.rules.proofs.Apart.{AllApart}
 use Rattle.rules.proofs.StepsSeen.{all_ok, steps}

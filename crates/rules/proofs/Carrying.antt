@@ -1,10 +1,9 @@
 -- What a change of the cells within a round leaves of a worker's invariant: all of it.
-use Rattle.std.proofs.Common.{◌≡◌, ℕ, zero, suc, ◌+◌, ◌-◌, ◌<◌, ◌≤◌, Bool, true, false, cond, ◌⊎◌, List, [], ◌∷◌, sym, refl, ap, ◌∙◌, subst, inl, inr, arith}
-use Rattle.rules.proofs.Heap.{upd, Colour, white, black, grey, Father, none, source, under, Cells, Fresh, Claimed, Is, Child, Traced, S, s_source, s_claimed, s_black, s_old, s_grey, Rooted, r_source, r_under}
+use Rattle.std.proofs.Common.{◌≡◌, ℕ, ◌≤◌, Bool, true, false, ◌⊎◌, List, [], ◌∷◌, sym, refl, ◌∙◌, subst, inl, inr, arith}
+use Rattle.rules.proofs.Heap.{upd, Colour, white, black, grey, source, Cells, Claimed, Is, s_claimed}
 use Rattle.rules.proofs.CellInvariant.{Global, Done, Keeps}
 use Rattle.rules.proofs.Walkers.{Label, idle, l101, l108, l121, l122, l126, l150, l151, l157, l158, l163, l168, l175, l180, l129, l134, l135, l137, Worker}
-use Rattle.rules.proofs.WalkerInvariant.{Mem, Full, Scanning, Tracing, Between, Walk, Seen, Nodes, InSet, Places, Sweep, LocAt, Local}
-use Rattle.rules.proofs.Basics.{upd_here, upd_other, same?, back}
+use Rattle.rules.proofs.WalkerInvariant.{Scanning, Tracing, Between, Walk, Seen, Nodes, InSet, Places, Sweep, LocAt, Local}
 
 pub bool? : (b : Bool) → (b ≡ true) ⊎ (b ≡ false)
 bool? true = inl refl

@@ -1,6 +1,6 @@
 -- The invariant of the cells, and the order between two states of one round.
-use Rattle.std.proofs.Common.{◌≡◌, ℕ, zero, suc, ◌+◌, ◌-◌, ◌<◌, ◌≤◌, ◌⊎◌, inl, inr}
-use Rattle.rules.proofs.Heap.{upd, Colour, white, black, grey, Father, none, source, under, Cells, Fresh, Claimed, Is, Child, Traced, S, Rooted}
+use Rattle.std.proofs.Common.{◌≡◌, ℕ, suc, ◌<◌, ◌≤◌, ◌⊎◌}
+use Rattle.rules.proofs.Heap.{white, black, grey, none, under, Cells, Fresh, Claimed, Is, Child, Traced, S, Rooted}
 
 abbrev pub Done : Cells → ℕ → Type 0
 Done c z = Fresh c z × Is c black z

@@ -1,8 +1,8 @@
-use Rattle.std.proofs.Common.{◌≡◌, ℕ, zero, suc, ◌+◌, ◌-◌, ◌<◌, ◌≤◌, Bool, true, false, cond, ◌⊎◌, sym, refl, ap, ◌∙◌, subst, inl, inr, arith}
-use Rattle.rules.proofs.Heap.{upd, Colour, white, black, grey, Father, none, source, under, Cells, Fresh, Claimed, Is, Child, Traced, S, s_source, s_claimed, s_black, s_old, s_grey, Rooted, r_source, r_under}
-use Rattle.rules.proofs.CellInvariant.{Global, Done, Keeps}
+use Rattle.std.proofs.Common.{◌≡◌, ℕ, sym, refl, subst, inl, inr, arith}
+use Rattle.rules.proofs.Heap.{grey, none, Cells, Claimed, Is, Traced, S, s_source, s_claimed, s_black, s_old, s_grey, Rooted, r_source, r_under}
+use Rattle.rules.proofs.CellInvariant.{Global, Keeps}
 use Rattle.rules.proofs.HeapChanges.{claim}
-use Rattle.rules.proofs.Basics.{upd_here, upd_other, same?}
+use Rattle.rules.proofs.Basics.{same?}
 
 module _ (In : ℕ → Type 0) (c : Cells) (w y : ℕ) (g : Global In c) (yGrey : Is c grey y) (yNone : c.father y ≡ none)
     (w_claimed : Claimed c w) (wGrey : Is c grey w) (wy : Traced c w y) where

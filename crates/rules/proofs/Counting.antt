@@ -1,8 +1,7 @@
-use Rattle.std.proofs.Common.{◌≡◌, ℕ, zero, suc, ◌+◌, ◌-◌, ◌<◌, ◌≤◌, Bool, true, false, cond, ◌⊎◌, sym, refl, ap, ◌∙◌, subst, inl, inr, arith}
-use Rattle.rules.proofs.Heap.{upd, Colour, white, black, grey, Father, none, source, under, Cells, Fresh, Claimed, Is, Child, Traced, S, s_source, s_claimed, s_black, s_old, s_grey, Rooted, r_source, r_under}
-use Rattle.rules.proofs.CellInvariant.{Global, Done, Keeps}
+use Rattle.std.proofs.Common.{ℕ, ◌<◌, ◌≤◌, refl, inl, arith}
+use Rattle.rules.proofs.Heap.{Cells, S, s_source, s_claimed, s_black, s_old, s_grey, Rooted, r_source, r_under}
+use Rattle.rules.proofs.CellInvariant.{Global, Keeps}
 use Rattle.rules.proofs.HeapChanges.{counts}
-use Rattle.rules.proofs.Basics.{upd_here, upd_other, same?, back}
 
 module _ (In : ℕ → Type 0) (c : Cells) (s o : ℕ → ℕ) (g : Global In c) (up : (z : ℕ) → c.sources z ≤ s z) (new : (z : ℕ) → 0 < s z → S c z) where
   kept : {z : ℕ} → S c z → S (counts c s o) z

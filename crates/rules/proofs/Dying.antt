@@ -1,6 +1,6 @@
 -- What is known of the cells D that were dead when the round number was r, and have not been white since.
-use Rattle.std.proofs.Common.{◌≡◌, ℕ, zero, suc, ◌+◌, ◌<◌, ◌≤◌, ◌⊎◌, inl, inr}
-use Rattle.rules.proofs.Heap.{white, black, grey, none, Cells, Fresh, Is, Child}
+use Rattle.std.proofs.Common.{◌≡◌, ℕ, ◌+◌, ◌≤◌, ◌⊎◌}
+use Rattle.rules.proofs.Heap.{white, grey, none, Fresh, Is, Child}
 use Rattle.rules.proofs.Moves.{View}
 use Rattle.rules.proofs.Invariant.{root_count, box_count}
 

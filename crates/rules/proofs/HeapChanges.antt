@@ -1,5 +1,5 @@
 -- What the steps and calls do to the cells.
-use Rattle.std.proofs.Common.{◌≡◌, ℕ, zero, suc, ◌+◌, ◌-◌, ◌<◌, ◌≤◌, Bool, true, false, cond}
+use Rattle.std.proofs.Common.{ℕ, zero, suc, ◌-◌}
 use Rattle.rules.proofs.Heap.{upd, Colour, white, black, grey, Father, none, source, under, Cells}
 
 abbrev pub darken : Colour → Colour

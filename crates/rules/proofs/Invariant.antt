@@ -1,5 +1,5 @@
 -- The invariant of a store, with the balance of its counts.
-use Rattle.std.proofs.Common.{◌≡◌, ℕ, zero, suc, ◌+◌, ◌<◌, ◌≤◌, Bool, true, false, eqb}
+use Rattle.std.proofs.Common.{◌≡◌, ℕ, zero, suc, ◌+◌, ◌≤◌, Bool, true, false, eqb}
 use Rattle.rules.proofs.Heap.{Cells}
 use Rattle.rules.proofs.Moves.{View, Range}
 use Rattle.rules.proofs.CellInvariant.{Global}

@@ -1,16 +1,16 @@
 -- The laws hold of one moment more.
-use Rattle.std.proofs.Common.{◌≡◌, ℕ, zero, suc, ◌+◌, ◌<◌, ◌≤◌, Bool, true, false, cond, eqb, leb, ◌⊎◌, List, [], ◌∷◌, ◌++◌, length, get_or, replicate, sym, refl, ap, ◌∙◌, subst, inl, inr, arith}
+use Rattle.std.proofs.Common.{◌≡◌, ℕ, zero, suc, ◌+◌, ◌<◌, ◌≤◌, Bool, true, false, eqb, ◌⊎◌, List, [], ◌∷◌, length, get_or, replicate, sym, refl, ap, ◌∙◌, subst, inl, inr, arith}
 use mathlib.Core.Path.{fun_ext}
 use Rattle.std.proofs.lemmas.Bool.Decides.{leb_tells}
 use Rattle.rules.specs.declared.cell.Colour.{Colour}
 use Rattle.rules.specs.declared.cell.Colour.TheVariants.{White, Black, Grey}
 use Rattle.rules.specs.States.{State, cell, worker}
 use Rattle.rules.proofs.Seen.{view, shade}
-use Rattle.rules.specs.Laws.{Told, Live, by_root, by_box, by_child, Member, Moment, moment, LiveAt, DeadAt, FreeAt, NoFreeCellLive, CountsBalance, AtMoment, AtEveryMoment, here, before, FreedBetween, FreedAfterRises, one, sum, roots_of, boxes_of}
+use Rattle.rules.specs.Laws.{Told, Live, by_root, by_box, by_child, Moment, moment, LiveAt, DeadAt, FreeAt, NoFreeCellLive, CountsBalance, AtMoment, AtEveryMoment, here, before, FreedBetween, FreedAfterRises, one, sum}
 use Rattle.rules.specs.Limits.{CountsWithin, ChildrenWithin, StacksFit, RoundsWithin}
 use Rattle.rules.proofs.Shape.{Shape, CellOk, WorkerOk}
 use Rattle.rules.proofs.Led.{tables, Leads, stays, moves, Led, led_same}
-use Rattle.rules.proofs.Heap.{Cells, white, Is, Child}
+use Rattle.rules.proofs.Heap.{white, Is}
 use Rattle.rules.proofs.Moves.{View, Range, Live as Lives, live_root, live_box, live_child}
 use Rattle.rules.proofs.Invariant.{Inv, bit, sum as total, root_count, box_count}
 use Rattle.rules.proofs.Dying.{Track}
@@ -20,8 +20,7 @@ use lib.ListN.{get_or-replicate}
 use Rattle.rules.specs.Cells.{no_cell}
 use Rattle.rules.specs.Workers.{no_worker}
 use Rattle.rules.specs.declared.cell.Cell.{Cell}
-use Rattle.rules.specs.declared.worker.Worker.{Worker}
-use Rattle.rules.proofs.Seen.{stand_of, parent}
+use Rattle.rules.proofs.Seen.{stand_of}
 use Rattle.rules.specs.Cells.{free}
 use Rattle.rules.specs.Workers.{resting}
 use Rattle.rules.specs.States.{opened}

@@ -1,9 +1,8 @@
 -- The laws hold along every history.
-use Rattle.std.proofs.Common.{◌≡◌, ℕ, List, [], ◌∷◌, Ok, Err, sym, refl, ap, ◌∙◌, subst}
-use Rattle.rules.specs.declared.worker.Label.{Label}
-use Rattle.rules.specs.States.{State, opened}
+use Rattle.std.proofs.Common.{◌≡◌, ℕ, List, [], ◌∷◌, Ok, Err, sym, refl, subst}
+use Rattle.rules.specs.States.{State}
 use Rattle.rules.specs.Rounds.{StepsInRow, none, more}
-use Rattle.rules.specs.Laws.{Event, create, add_child, get_child, make, protect, unprotect, send, receive, begin, step, run, Told, nothing, tell, told, Moment, moment, AtEveryMoment, NoFreeCellLive, CountsBalance, FreedAfterRises, Does, during, after, History, started, then, InEveryHistory}
+use Rattle.rules.specs.Laws.{Event, create, add_child, get_child, make, protect, unprotect, send, receive, begin, step, run, Told, tell, told, Moment, moment, AtEveryMoment, NoFreeCellLive, CountsBalance, FreedAfterRises, Does, during, History, started, then, InEveryHistory}
 use Rattle.rules.specs.Limits.{CountsWithin, ChildrenWithin, StacksFit, RoundsWithin}
 use Rattle.rules.proofs.Led.{Led, led_same}
 use Rattle.rules.proofs.Keeping.{Good, extend, first_good}

@@ -1,6 +1,5 @@
 -- A call or a step that leads from one model to the next, as the theory sees it.
-use Rattle.std.proofs.Common.{◌≡◌, ℕ, Bool, true, false, List, [], ◌∷◌, sym, refl, ap, ◌∙◌, subst}
-use mathlib.Core.Path.{fun_ext}
+use Rattle.std.proofs.Common.{◌≡◌, ℕ, sym, refl, subst}
 use Rattle.rules.specs.States.{State}
 use Rattle.rules.proofs.Seen.{view}
 use Rattle.rules.specs.Laws.{Told}

@@ -1,10 +1,9 @@
 -- What a worker's own move leaves of its invariant, over cells that stay.
-use Rattle.std.proofs.Common.{◌≡◌, ℕ, zero, suc, ◌+◌, ◌-◌, ◌<◌, ◌≤◌, Bool, true, false, cond, ◌⊎◌, List, [], ◌∷◌, sym, refl, ap, ◌∙◌, subst, inl, inr, arith}
+use Rattle.std.proofs.Common.{◌≡◌, ℕ, zero, suc, ◌+◌, ◌<◌, ◌≤◌, Bool, true, false, ◌⊎◌, List, [], ◌∷◌, sym, refl, ap, ◌∙◌, subst, inl, inr, arith}
 use mathlib.Core.Path.{fun_ext}
-use Rattle.rules.proofs.Heap.{upd, Colour, white, black, grey, Father, none, source, under, Cells, Fresh, Claimed, Is, Child, Traced, S, s_source, s_claimed, s_black, s_old, s_grey, Rooted, r_source, r_under}
-use Rattle.rules.proofs.CellInvariant.{Global, Done, Keeps}
-use Rattle.rules.proofs.Walkers.{Label, idle, l101, l108, l121, l122, l126, l150, l151, l157, l158, l163, l168, l175, l180, l129, l134, l135, l137, Worker}
-use Rattle.rules.proofs.WalkerInvariant.{Mem, Full, Scanning, Tracing, Between, Walk, Seen, Nodes, InSet, Places, Sweep, LocAt, Local}
+use Rattle.rules.proofs.Heap.{upd, black, grey, none, source, under, Cells, Fresh, Claimed, Is, Traced, S, s_source, s_claimed, s_black, s_old, s_grey, Rooted, r_source, r_under}
+use Rattle.rules.proofs.CellInvariant.{Global, Done}
+use Rattle.rules.proofs.WalkerInvariant.{Mem, Full, Scanning, Between, Walk, Seen, Nodes, InSet, Places, Sweep}
 use Rattle.rules.proofs.Basics.{upd_here, upd_other, same?, back}
 use Rattle.rules.proofs.Copies.{copies}
 use Rattle.rules.proofs.Carrying.{bool?, colour?, keeps_refl, claimed_in_set, nodes_kept, seen_kept}

@@ -1,8 +1,8 @@
 -- The store, the calls and steps as moves between stores, runs, and what the theorem says of them.
-use Rattle.std.proofs.Common.{◌≡◌, ℕ, zero, suc, ◌+◌, ◌<◌, ◌≤◌, Bool, true, false, eqb, ◌⊎◌, List, [], ◌∷◌, inl, inr}
-use Rattle.rules.proofs.Heap.{upd, Colour, white, black, grey, Father, none, source, under, Cells, Is, Child}
+use Rattle.std.proofs.Common.{◌≡◌, ℕ, suc, ◌≤◌, Bool, true, false}
+use Rattle.rules.proofs.Heap.{upd, white, Cells, Is, Child}
 use Rattle.rules.proofs.HeapChanges.{made, add, counts}
-use Rattle.rules.proofs.Walkers.{Label, idle, Worker, begun}
+use Rattle.rules.proofs.Walkers.{idle, Worker, begun}
 use Rattle.rules.proofs.WalkerSteps.{Step, Fills}
 
 pub record View : Type 0 where

@@ -1,10 +1,8 @@
 -- A write to the list of records, seen as functions.
-use Rattle.std.proofs.Common.{◌≡◌, ℕ, zero, suc, ◌+◌, ◌-◌, ◌<◌, ◌≤◌, Bool, true, false, cond, ◌⊎◌, List, [], ◌∷◌, length, get_or, set, sym, refl, ap, ◌∙◌, subst, inl, inr, arith, get_or-set_other, get_or-set_same}
-use mathlib.Core.Path.{fun_ext}
-use Rattle.rules.proofs.Heap.{upd, Colour, white, black, grey, Father, none, source, under, Cells}
-use Rattle.rules.proofs.HeapChanges.{darken, first_father, paint, scan_by, add}
+use Rattle.std.proofs.Common.{◌≡◌, ℕ, zero, suc, ◌<◌, List, length, get_or, set, sym, ap, ◌∙◌, inl, inr, arith, get_or-set_other, get_or-set_same}
+use Rattle.rules.proofs.Heap.{upd}
 use Rattle.rules.proofs.From1.{from1}
-use Rattle.rules.proofs.Basics.{upd_here, upd_other, same?, upd_at}
+use Rattle.rules.proofs.Basics.{upd_other, same?, upd_at}
 
 pub from1_set : {A : Type 0} (xs : List A) (d : A) (k : ℕ) (v : A) → k < length xs → (z : ℕ) → from1 (set xs k v) d z ≡ upd (from1 xs d) (suc k) v z
 from1_set xs d k v h zero = sym (upd_other (from1 xs d) (suc k) v 0 (λ p. omega arith))

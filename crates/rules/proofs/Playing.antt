@@ -1,5 +1,5 @@
 -- A step with the lowest member taken, as a function; it is a step of the rules.
-use Rattle.std.proofs.Common.{◌≡◌, ℕ, zero, suc, ◌+◌, ◌-◌, ◌<◌, ◌≤◌, Bool, true, false, cond, eqb, ltb, leb, ◌⊎◌, List, [], ◌∷◌, length, get_or, Some, None, Ok, Err, MatchBool, Option, sym, refl, ap, ◌∙◌, subst, inl, inr, arith}
+use Rattle.std.proofs.Common.{◌≡◌, ℕ, zero, suc, ◌+◌, ◌<◌, ◌≤◌, Bool, true, false, cond, eqb, Some, None, Ok, MatchBool, Option, refl, ap, ◌∙◌, subst, inl, inr, arith}
 use Rattle.lists.specs.Sets.{Sets, Took, struck}
 use Rattle.lists.specs.declared.waiting.Set.{Set}
 use Rattle.lists.specs.declared.waiting.Set.TheVariants.{Check, Start, Follow}
@@ -10,8 +10,8 @@ use Rattle.rules.specs.declared.worker.Worker.{Worker}
 use Rattle.rules.specs.Cells.{is_source, with_colour}
 use Rattle.rules.specs.Workers.{label_number, at_label, holding_x, holding_w, at_copy, with_stack}
 use Rattle.rules.specs.States.{State, cell, worker, with_cell, with_worker, with_sets, with_round, HasWorker, idle}
-use Rattle.rules.specs.Rounds.{in_step, grey_and_fresh, goes, filled_with_all, drawn, next_of, Draws, To, scanning, following_alone, copying, copy_left, copy, looked, claims, claimed, stack_left, unstacked, painted, StepsAt, Steps, StepsInRow, none, more}
-use Rattle.rules.proofs.Shape.{Shape, SetsOk}
+use Rattle.rules.specs.Rounds.{in_step, grey_and_fresh, goes, filled_with_all, drawn, next_of, Draws, To, scanning, following_alone, copying, copy_left, copy, looked, claims, claimed, stack_left, unstacked, painted, StepsAt, Steps}
+use Rattle.rules.proofs.Shape.{SetsOk}
 use Rattle.rules.proofs.Moves.{Range}
 use Rattle.rules.proofs.Basics.{same?}
 

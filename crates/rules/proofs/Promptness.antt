@@ -1,25 +1,16 @@
 -- A dead cell has been free by the third rise of the round number.
-use Rattle.std.proofs.Common.{◌≡◌, ℕ, zero, suc, ◌+◌, ◌-◌, ◌<◌, ◌≤◌, Bool, true, false, cond, eqb, ◌⊎◌, List, [], ◌∷◌, sym, refl, ap, ◌∙◌, subst, inl, inr, arith}
-use mathlib.Core.Path.{fun_ext}
-use Rattle.rules.proofs.Heap.{upd, Colour, white, black, grey, Father, none, source, under, Cells, Fresh, Claimed, Is, Child, Traced, S, s_source, s_claimed, s_black, s_old, s_grey, Rooted, r_source, r_under}
-use Rattle.rules.proofs.CellInvariant.{Global, Done, Keeps}
-use Rattle.rules.proofs.HeapChanges.{darken, first_father, scan_by, scan, claim, paint, whiten, turn, made, add, counts}
-use Rattle.rules.proofs.Walkers.{Label, idle, l101, l108, l121, l122, l126, l150, l151, l157, l158, l163, l168, l175, l180, l129, l134, l135, l137, Worker, begun}
-use Rattle.rules.proofs.WalkerInvariant.{LocAt, Local}
-use Rattle.rules.proofs.WalkerSteps.{Step, InStep, GreyFresh, Free, a101_take, a101_none, a108_scan, a108_skip, a121, a122_take, a122_none, a126_yes, a126_no, a150, a151_take, a151_none, a157_go, a157_no, a158_in, a158_out, a158_end, a163_claim, a163_no, a168_pop, a168_none, a175_paint, a175_no, a180, a129_take, a129_none, a134_white, a134_no, a135_turn, a135_no, a137}
+use Rattle.std.proofs.Common.{◌≡◌, ℕ, zero, suc, ◌+◌, ◌-◌, ◌≤◌, true, false, eqb, sym, refl, ap, ◌∙◌, subst, inl, inr, arith}
+use Rattle.rules.proofs.Heap.{upd, Colour, white, black, grey, under, Cells, Fresh, Is, Child, S, s_claimed}
+use Rattle.rules.proofs.HeapChanges.{darken, first_father, scan, whiten, made, add, counts}
+use Rattle.rules.proofs.Walkers.{Worker, begun}
 use Rattle.rules.proofs.Moves.{View, Range, Reach, at_root, on, Live, live_root, live_box, live_child, moved, called, root, boxed, more, Move, step, begin, make, append_child, protect, un_protect, send, receive, receive_again}
-use Rattle.rules.proofs.Invariant.{bit, sum, root_count, box_count, Balance, Inv}
-use Rattle.rules.proofs.Basics.{upd_here, upd_other, same?, back, upd_all, upd_at}
-use Rattle.rules.proofs.Carrying.{keeps_refl, local_kept, bool?}
-use native.Mathlib.Decide.{dec_lt}
-use Rattle.rules.proofs.StepKept.{step_kept}
-use Rattle.rules.proofs.Counting.{counts_global, counts_keeps}
-use Rattle.rules.proofs.Adding.{add_global, add_keeps}
-use Rattle.rules.proofs.Making.{made_global, made_keeps}
-use Rattle.rules.proofs.Sums.{sum_change, sum_at, sum_none, roots_change, boxes_change}
+use Rattle.rules.proofs.Invariant.{bit, sum, root_count, box_count, Inv}
+use Rattle.rules.proofs.Basics.{upd_other, same?, back, upd_at}
+use Rattle.rules.proofs.Carrying.{bool?}
+use Rattle.rules.proofs.Sums.{sum_at}
 use Rattle.rules.proofs.Dying.{Track}
 use Rattle.rules.proofs.Effects.{Effect, e_same, e_scan, e_claim, e_paint, e_whiten, e_turn, step_effect}
-use Rattle.rules.proofs.Safety.{roots_else, boxes_at, is_one, is_none, reach_s, live_kept, move_kept}
+use Rattle.rules.proofs.Safety.{roots_else, boxes_at, is_one, is_none, reach_s}
 use Rattle.rules.proofs.Making.{arrow_back}
 use Rattle.rules.proofs.Adding.{child_old}
 

@@ -1,8 +1,8 @@
 -- Steps until the worker is idle, as a function; they are Steps in a row.
-use Rattle.std.proofs.Common.{◌≡◌, ℕ, zero, suc, Bool, true, false, cond, List, [], ◌∷◌, Ok, sym, refl, subst}
+use Rattle.std.proofs.Common.{◌≡◌, ℕ, zero, suc, Bool, true, false, cond, List, ◌∷◌, Ok, sym, refl, subst}
 use Rattle.graph.specs.Nets.{Within}
 use Rattle.rules.specs.States.{State, HasWorker, idle}
-use Rattle.rules.specs.Rounds.{StepsInRow, none, more}
+use Rattle.rules.specs.Rounds.{StepsInRow, more}
 use Rattle.rules.specs.Laws.{Told, Moment}
 use Rattle.rules.proofs.Keeping.{Good}
 use Rattle.rules.proofs.Lawful.{row_good}

@@ -1,21 +1,20 @@
 -- The invariant holds along every run, so no live cell is free.
-use Rattle.std.proofs.Common.{◌≡◌, ℕ, zero, suc, ◌+◌, ◌-◌, ◌<◌, ◌≤◌, Bool, true, false, cond, eqb, ◌⊎◌, List, [], ◌∷◌, sym, refl, ap, ◌∙◌, subst, inl, inr, arith}
-use mathlib.Core.Path.{fun_ext}
-use Rattle.rules.proofs.Heap.{upd, Colour, white, black, grey, Father, none, source, under, Cells, Fresh, Claimed, Is, Child, Traced, S, s_source, s_claimed, s_black, s_old, s_grey, Rooted, r_source, r_under}
-use Rattle.rules.proofs.CellInvariant.{Global, Done, Keeps}
-use Rattle.rules.proofs.HeapChanges.{scan_by, scan, claim, paint, whiten, turn, made, add, counts}
-use Rattle.rules.proofs.Walkers.{Label, idle, l101, l108, l121, l122, l126, l150, l151, l157, l158, l163, l168, l175, l180, l129, l134, l135, l137, Worker, begun}
+use Rattle.std.proofs.Common.{◌≡◌, ℕ, suc, ◌+◌, ◌<◌, ◌≤◌, Bool, true, false, eqb, sym, ap, ◌∙◌, subst, inl, inr, arith}
+use Rattle.rules.proofs.Heap.{upd, white, grey, Cells, Fresh, Is, S, s_source, s_claimed, s_black, s_old, s_grey}
+use Rattle.rules.proofs.CellInvariant.{Global, Keeps}
+use Rattle.rules.proofs.HeapChanges.{made, add, counts}
+use Rattle.rules.proofs.Walkers.{Worker, begun}
 use Rattle.rules.proofs.WalkerInvariant.{LocAt, Local}
-use Rattle.rules.proofs.WalkerSteps.{Step, InStep, GreyFresh, Free, a101_take, a101_none, a108_scan, a108_skip, a121, a122_take, a122_none, a126_yes, a126_no, a150, a151_take, a151_none, a157_go, a157_no, a158_in, a158_out, a158_end, a163_claim, a163_no, a168_pop, a168_none, a175_paint, a175_no, a180, a129_take, a129_none, a134_white, a134_no, a135_turn, a135_no, a137}
-use Rattle.rules.proofs.Moves.{View, Range, Reach, at_root, on, Live, live_root, live_box, live_child, moved, called, root, boxed, more, Move, step, begin, make, append_child, protect, un_protect, send, receive, receive_again, Starts}
+use Rattle.rules.proofs.WalkerSteps.{Step, a101_take, a101_none, a108_scan, a108_skip, a121, a122_take, a122_none, a126_yes, a126_no, a150, a151_take, a151_none, a157_go, a157_no, a158_in, a158_out, a158_end, a163_claim, a163_no, a168_pop, a168_none, a175_paint, a175_no, a180, a129_take, a129_none, a134_white, a134_no, a135_turn, a135_no, a137}
+use Rattle.rules.proofs.Moves.{View, Range, Reach, at_root, on, Live, live_root, live_box, live_child, called, root, boxed, more, Move, step, begin, make, append_child, protect, un_protect, send, receive, receive_again, Starts}
 use Rattle.rules.proofs.Invariant.{bit, sum, root_count, box_count, Balance, Inv}
-use Rattle.rules.proofs.Basics.{upd_here, upd_other, same?, back, upd_all, upd_at}
+use Rattle.rules.proofs.Basics.{upd_other, same?, upd_all, upd_at}
 use Rattle.rules.proofs.Carrying.{keeps_refl, local_kept}
 use Rattle.rules.proofs.StepKept.{step_kept}
 use Rattle.rules.proofs.Counting.{counts_global, counts_keeps}
 use Rattle.rules.proofs.Adding.{add_global, add_keeps}
 use Rattle.rules.proofs.Making.{made_global, made_keeps}
-use Rattle.rules.proofs.Sums.{sum_change, sum_at, sum_none, roots_change, boxes_change}
+use Rattle.rules.proofs.Sums.{sum_at, sum_none, roots_change, boxes_change}
 
 -- a step leaves what is owed of each count
 step_counts : (In : ℕ → Type 0) {c : Cells} {w : Worker} {d : Cells} {w' : Worker} → Step In c w d w' → (x h : ℕ) → c.sources x ≡ c.putoff x + h → d.sources x ≡ d.putoff x + h

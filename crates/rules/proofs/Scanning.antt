@@ -1,8 +1,8 @@
-use Rattle.std.proofs.Common.{◌≡◌, ℕ, zero, suc, ◌+◌, ◌-◌, ◌<◌, ◌≤◌, Bool, true, false, cond, ◌⊎◌, sym, refl, ap, ◌∙◌, subst, inl, inr, arith}
-use Rattle.rules.proofs.Heap.{upd, Colour, white, black, grey, Father, none, source, under, Cells, Fresh, Claimed, Is, Child, Traced, S, s_source, s_claimed, s_black, s_old, s_grey, Rooted, r_source, r_under}
-use Rattle.rules.proofs.CellInvariant.{Global, Done, Keeps}
+use Rattle.std.proofs.Common.{◌≡◌, ℕ, zero, suc, ◌<◌, ◌⊎◌, refl, ap, ◌∙◌, subst, inl, inr, arith}
+use Rattle.rules.proofs.Heap.{Colour, white, black, grey, none, source, under, Cells, Fresh, Claimed, Is, Child, Traced, S, s_source, s_claimed, s_black, s_old, s_grey, Rooted, r_source, r_under}
+use Rattle.rules.proofs.CellInvariant.{Global, Keeps}
 use Rattle.rules.proofs.HeapChanges.{scan, darken, first_father}
-use Rattle.rules.proofs.Basics.{upd_here, upd_other, same?, back}
+use Rattle.rules.proofs.Basics.{upd_other, same?, back}
 
 module _ (In : ℕ → Type 0) (c : Cells) (x : ℕ) (g : Global In c) (x_in : In x) (xOld : c.round x ≡ c.rnd) where
   nf : Fresh c x → ⊥

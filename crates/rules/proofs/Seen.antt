@@ -1,5 +1,5 @@
 -- The store seen as functions, as the theory has it.
-use Rattle.std.proofs.Common.{ℕ, zero, suc, ◌+◌, ◌-◌, Bool, true, false, List, [], ◌∷◌, get_or}
+use Rattle.std.proofs.Common.{ℕ, zero, suc, ◌+◌, ◌-◌, Bool, false, List, [], ◌∷◌, get_or}
 use Rattle.lists.specs.Sets.{Sets}
 use Rattle.lists.specs.declared.waiting.Set.{Set}
 use Rattle.lists.specs.declared.waiting.Set.TheVariants.{Check, Start, Follow}

@@ -1,17 +1,16 @@
 -- Each change of a cell is the theory's.
-use Rattle.std.proofs.Common.{◌≡◌, ℕ, zero, suc, ◌+◌, ◌-◌, ◌<◌, ◌≤◌, Bool, true, false, cond, not, ◌&&◌, eqb, ltb, ◌⊎◌, List, [], ◌∷◌, length, get_or, set, sym, refl, ap, ◌∙◌, subst, inl, inr, add-one, arith}
+use Rattle.std.proofs.Common.{◌≡◌, ℕ, zero, suc, ◌+◌, ◌-◌, ◌<◌, Bool, true, cond, ltb, List, length, get_or, set, refl, ap, ◌∙◌, add-one, arith}
 use mathlib.Core.Path.{fun_ext}
 use Rattle.rules.specs.declared.cell.Cell.{Cell}
 use Rattle.rules.specs.declared.cell.Colour.{Colour}
 use Rattle.rules.specs.declared.cell.Colour.TheVariants.{White, Black, Grey}
 use Rattle.rules.specs.declared.cell.Father.TheVariants.{Nobody, Source, Under}
 use Rattle.rules.specs.Cells.{no_cell}
-use Rattle.rules.specs.Workers.{no_worker}
 use Rattle.rules.specs.Cells.{with_sources, with_putoff, with_colour, with_father, with_child, made}
 use Rattle.rules.proofs.Seen.{shade, parent, seen_cells}
 use Rattle.rules.specs.Rounds.{scanned, painted, greyed}
-use Rattle.rules.proofs.Views.{wrote, upd_same, put, seen_put}
-use Rattle.rules.proofs.Heap.{upd, Cells, white, black, grey, none, source, under, Father as Parent}
+use Rattle.rules.proofs.Views.{upd_same, seen_put}
+use Rattle.rules.proofs.Heap.{upd, Cells, white, black, under}
 use Rattle.rules.proofs.HeapChanges.{darken, first_father, scan_by, claim, paint, whiten, add, counts, made as madeBy}
 use Rattle.rules.proofs.Moves.{more}
 use Rattle.rules.proofs.From1.{from1}

@@ -1,19 +1,18 @@
 -- The sizes of the tables, which a model does not say by itself.
-use Rattle.std.proofs.Common.{◌≡◌, ℕ, zero, suc, ◌+◌, ◌-◌, ◌<◌, ◌≤◌, Bool, true, false, cond, not, ◌&&◌, ◌||◌, eqb, leb, ◌⊎◌, List, [], ◌∷◌, length, get_or, set, sym, refl, ap, ◌∙◌, subst, inl, inr, arith, length-set, get_or-set_other, get_or-set_same}
+use Rattle.std.proofs.Common.{◌≡◌, ℕ, ◌<◌, ◌≤◌, Bool, true, false, cond, not, ◌&&◌, ◌||◌, eqb, ◌⊎◌, List, length, get_or, set, sym, refl, ap, ◌∙◌, subst, inl, inr, arith, length-set, get_or-set_other, get_or-set_same}
 use mathlib.Core.Path.{fun_ext}
 use Rattle.std.proofs.lemmas.Bool.Decides.{nat_tests}
-use Rattle.lists.specs.Sets.{Sets, with_set, filled, struck, cleared, added, takes, is_worker}
+use Rattle.lists.specs.Sets.{Sets, with_set, filled, struck, cleared, added, takes}
 use Rattle.lists.specs.Sets.{in_range}
 use Rattle.lists.specs.Sets.{set_no}
 use Rattle.lists.specs.declared.waiting.Set.{Set}
-use Rattle.lists.specs.declared.waiting.Set.TheVariants.{Check, Start, Follow}
 use Rattle.rules.specs.declared.cell.Cell.{Cell}
 use Rattle.rules.specs.declared.worker.Worker.{Worker}
 use Rattle.rules.specs.declared.worker.Label.{Label}
 use Rattle.rules.specs.declared.worker.Label.TheVariants.{Idle, L101, L108, L121, L122, L126, L150, L151, L157, L158, L163, L168, L175, L180, L129, L134, L135, L137}
 use Rattle.rules.specs.Cells.{no_cell}
 use Rattle.rules.specs.Workers.{no_worker}
-use Rattle.rules.specs.States.{State, cell, worker}
+use Rattle.rules.specs.States.{State}
 use Rattle.rules.proofs.Heap.{upd}
 use Rattle.rules.proofs.Moves.{Range}
 use Rattle.rules.proofs.Basics.{same?}

@@ -1,14 +1,14 @@
 -- Every step of a worker keeps the invariant.
-use Rattle.std.proofs.Common.{◌≡◌, ℕ, zero, suc, ◌+◌, ◌-◌, ◌<◌, ◌≤◌, Bool, true, false, cond, ◌⊎◌, List, [], ◌∷◌, sym, refl, ap, ◌∙◌, subst, inl, inr, arith}
+use Rattle.std.proofs.Common.{◌≡◌, ℕ, suc, true, false, List, ◌∷◌, sym, refl, ap, ◌∙◌, subst, inl, inr, arith}
 use mathlib.Core.Path.{fun_ext}
-use Rattle.rules.proofs.Heap.{upd, Colour, white, black, grey, Father, none, source, under, Cells, Fresh, Claimed, Is, Child, Traced, S, s_source, s_claimed, s_black, s_old, s_grey, Rooted, r_source, r_under}
-use Rattle.rules.proofs.CellInvariant.{Global, Done, Keeps}
-use Rattle.rules.proofs.Walkers.{Label, idle, l101, l108, l121, l122, l126, l150, l151, l157, l158, l163, l168, l175, l180, l129, l134, l135, l137, Worker, goto, with_check, with_start, with_walk, no_cells}
-use Rattle.rules.proofs.WalkerInvariant.{Mem, Full, Scanning, Tracing, Between, Walk, Seen, Nodes, InSet, Places, Sweep, LocAt, Local}
-use Rattle.rules.proofs.Basics.{upd_here, upd_other, same?, back}
+use Rattle.rules.proofs.Heap.{upd, grey, under, Cells, Fresh, Is, Traced}
+use Rattle.rules.proofs.CellInvariant.{Global, Keeps}
+use Rattle.rules.proofs.Walkers.{Label, l101, l108, l121, l122, l126, l150, l151, l157, l158, l163, l168, l175, l180, l129, l134, l135, l137, Worker, goto, with_walk}
+use Rattle.rules.proofs.WalkerInvariant.{Walk, Nodes, InSet, Places, LocAt, Local}
+use Rattle.rules.proofs.Basics.{upd_here}
 use Rattle.rules.proofs.HeapChanges.{scan_by, scan, claim, paint, whiten, turn}
 use Rattle.rules.proofs.WalkerSteps.{Step, InStep, GreyFresh, Free, a101_take, a101_none, a108_scan, a108_skip, a121, a122_take, a122_none, a126_yes, a126_no, a150, a151_take, a151_none, a157_go, a157_no, a158_in, a158_out, a158_end, a163_claim, a163_no, a168_pop, a168_none, a175_paint, a175_no, a180, a129_take, a129_none, a134_white, a134_no, a135_turn, a135_no, a137}
-use Rattle.rules.proofs.Carrying.{bool?, colour?, keeps_refl, local_kept, loc_kept, father_same, claimed_kept}
+use Rattle.rules.proofs.Carrying.{local_kept, loc_kept}
 use Rattle.rules.proofs.Mover as own
 use Rattle.rules.proofs.Scanning.{scan_global, scan_keeps}
 use Rattle.rules.proofs.Claiming.{claim_global, claim_keeps}

@@ -1,13 +1,10 @@
 -- A step or a call on the model is a move of the theory.
-use Rattle.std.proofs.Common.{◌≡◌, ℕ, zero, suc, ◌+◌, ◌-◌, ◌<◌, ◌≤◌, Bool, true, false, cond, not, ◌&&◌, ◌||◌, eqb, ltb, leb, ◌⊎◌, List, [], ◌∷◌, ◌++◌, length, get_or, set, Some, None, MatchBool, Option, sym, refl, ap, ◌∙◌, subst, inl, inr, add-one, arith, length-set, get_or-set_other, get_or-set_same}
-use mathlib.Core.Path.{fun_ext}
+use Rattle.std.proofs.Common.{◌≡◌, ℕ, zero, suc, ◌+◌, ◌-◌, ◌<◌, ◌≤◌, Bool, true, false, cond, not, ◌&&◌, ◌||◌, eqb, ltb, leb, ◌⊎◌, List, [], ◌∷◌, length, get_or, set, Some, None, MatchBool, Option, sym, refl, ap, ◌∙◌, subst, inl, inr, add-one, arith, length-set, get_or-set_other, get_or-set_same}
 use Rattle.std.proofs.lemmas.Bool.Decides.{nat_tests, leb_tells}
-use Rattle.std.proofs.lemmas.List.{get_or_past}
-use Rattle.lists.specs.Sets.{Sets, with_set, filled, struck, cleared, added, takes, Took}
+use Rattle.lists.specs.Sets.{Sets, filled, struck, cleared, added, takes, Took}
 use Rattle.lists.specs.Sets.{in_range}
 use Rattle.lists.specs.declared.waiting.Set.{Set}
 use Rattle.lists.specs.declared.waiting.Set.TheVariants.{Check, Start, Follow}
-use Rattle.rules.specs.declared.refusal.Refusal.{Refusal}
 use Rattle.rules.specs.declared.cell.Cell.{Cell}
 use Rattle.rules.specs.declared.cell.Colour.{Colour}
 use Rattle.rules.specs.declared.cell.Colour.TheVariants.{White, Black, Grey}
@@ -21,25 +18,22 @@ use Rattle.rules.specs.Workers.{no_worker}
 use Rattle.rules.specs.States.{State, cell, worker, with_cell, with_worker, with_sets, with_round}
 use Rattle.rules.specs.Cells.{is_grey, is_source, with_colour, with_father}
 use Rattle.rules.specs.Workers.{at_label, holding_x, holding_w, holding_y, at_copy, with_copies, with_stack}
-use Rattle.rules.proofs.Seen.{view, shade, parent, stand, stand_of, copies_from, stacked, seen_worker, seen_cells}
-use Rattle.rules.specs.Rounds.{in_step, fresh, grey_and_fresh, goes, filled_with_all, drawn, next_of, Draws, greyed, scanned, scanning, following_alone, stacked as stacking, copying, copy_left, copy, looked, unclaimed, claims, claimed, stack_left, unstacked, painted, StepsAt}
-use Rattle.rules.specs.Laws.{Told}
-use Rattle.rules.proofs.Views.{made_of, moved_view, rooted_view}
-use Rattle.rules.proofs.SeenChanges.{see_paint, see_white, see_scan, see_made, see_source, see_putoff, see_add, see_claim}
-use Rattle.rules.proofs.Shape.{Each, each_set, CellOk, Held, WorkerOk, SetsOk, Shape, off_set, at_set, struck_is, line_in_range, range_in, filled_ok, struck_ok, all_taken, put_ok, cleared_ok, put_is}
-use Rattle.rules.proofs.Led.{tables, Leads, stays, moves, Led, led_same}
-use Rattle.rules.proofs.Heap.{upd, Cells, white, black, grey, none, source, under, Is, Colour as Shade, Father as Parent}
-use Rattle.rules.proofs.HeapChanges.{scan_by, claim, paint, whiten, turn, add, counts, made as madeBy}
-use Rattle.rules.proofs.Walkers.{idle, l101, l108, l121, l122, l126, l150, l151, l157, l158, l163, l168, l175, l180, l129, l134, l135, l137, no_cells, goto, with_check, with_start, with_walk, begun, Label as Stand, Worker as Walker}
+use Rattle.rules.proofs.Seen.{view, shade, parent, stand_of, copies_from, stacked, seen_worker, seen_cells}
+use Rattle.rules.specs.Rounds.{in_step, grey_and_fresh, goes, filled_with_all, drawn, next_of, Draws, scanned, scanning, copy_left, copy, looked, unclaimed, claims, claimed, stack_left, unstacked, painted, StepsAt}
+use Rattle.rules.proofs.Views.{made_of, moved_view}
+use Rattle.rules.proofs.SeenChanges.{see_paint, see_white, see_scan, see_claim}
+use Rattle.rules.proofs.Shape.{Each, each_set, CellOk, Held, WorkerOk, SetsOk, Shape, off_set, at_set, struck_is, range_in, filled_ok, struck_ok, all_taken, put_ok, cleared_ok, put_is}
+use Rattle.rules.proofs.Led.{tables, Leads, moves, Led}
+use Rattle.rules.proofs.Heap.{upd, Cells, grey, none, source, under}
+use Rattle.rules.proofs.HeapChanges.{claim}
+use Rattle.rules.proofs.Walkers.{l101, l122, l151, l157, l158, l163, l168, l129, l137, no_cells, goto, with_check, with_start, with_walk, Worker as Walker}
 use Rattle.rules.proofs.WalkerSteps.{Step, InStep, GreyFresh, a101_take, a101_none, a108_scan, a108_skip, a121, a122_take, a122_none, a126_yes, Free, a126_no, a150, a151_take, a151_none, a157_go, a157_no, a158_in, a158_out, a158_end, a163_claim, a163_no, a168_pop, a168_none, a175_paint, a175_no, a180, a129_take, a129_none, a134_white, a134_no, a135_turn, a135_no, a137}
-use Rattle.rules.proofs.Moves.{View, Range, Reach, Move, step, begin, make, append_child, protect, un_protect, called, moved, more}
+use Rattle.rules.proofs.Moves.{Range, step}
 use Rattle.rules.proofs.Copies.{copies}
 use Rattle.rules.proofs.Invariant.{Inv}
-use Rattle.rules.proofs.Basics.{upd_here, upd_other, same?, upd_at}
 use Rattle.rules.proofs.Effects.{Effect, e_same, e_scan, e_claim, e_paint, e_whiten, e_turn, step_effect}
 use Rattle.rules.proofs.From1.{from1}
-use Rattle.rules.proofs.Apart.{ApartAt, AllApart, room}
-use Rattle.rules.proofs.Safety.{unprotect_fits}
+use Rattle.rules.proofs.Apart.{AllApart, room}
 
 pub cases : {A : Type 0} (P : A → Type 0) (b : Bool) (x y : A) → (b ≡ true → P x) → (b ≡ false → P y) → P (cond b x y)
 cases P true x y f g = f refl

@@ -1,8 +1,7 @@
-use Rattle.std.proofs.Common.{◌≡◌, ℕ, zero, suc, ◌+◌, ◌-◌, ◌<◌, ◌≤◌, Bool, true, false, cond, eqb, ◌⊎◌, sym, refl, ap, ◌∙◌, subst, inl, inr, arith}
-use mathlib.Core.Path.{fun_ext}
+use Rattle.std.proofs.Common.{◌≡◌, ℕ, zero, suc, ◌+◌, ◌<◌, ◌≤◌, Bool, eqb, sym, refl, ap, inl, inr, arith}
 use Rattle.rules.proofs.Heap.{upd}
 use Rattle.rules.proofs.Invariant.{bit, sum, root_count, box_count}
-use Rattle.rules.proofs.Basics.{upd_here, upd_other, same?, back}
+use Rattle.rules.proofs.Basics.{upd_here, upd_other, same?}
 
 sum_other : (f f' : ℕ → ℕ) (k : ℕ) → ((q : ℕ) → (q ≡ k → ⊥) → f' q ≡ f q) → (n : ℕ) → n < k → sum f' n ≡ sum f n
 unfolding sum

@@ -1,8 +1,7 @@
-use Rattle.std.proofs.Common.{◌≡◌, ℕ, zero, suc, ◌+◌, ◌-◌, ◌<◌, ◌≤◌, Bool, true, false, cond, ◌⊎◌, sym, refl, ap, ◌∙◌, subst, inl, inr, arith}
-use Rattle.rules.proofs.Heap.{upd, Colour, white, black, grey, Father, none, source, under, Cells, Fresh, Claimed, Is, Child, Traced, S, s_source, s_claimed, s_black, s_old, s_grey, Rooted, r_source, r_under}
-use Rattle.rules.proofs.CellInvariant.{Global, Done, Keeps}
+use Rattle.std.proofs.Common.{ℕ, arith}
+use Rattle.rules.proofs.Heap.{grey, Cells, Fresh, Is, S, s_source, s_claimed, s_black, s_old, s_grey}
+use Rattle.rules.proofs.CellInvariant.{Global}
 use Rattle.rules.proofs.HeapChanges.{turn}
-use Rattle.rules.proofs.Basics.{upd_here, upd_other, same?}
 
 module _ (In : ℕ → Type 0) (c : Cells) (g : Global In c) (all-fresh : (x : ℕ) → In x → Fresh c x) (none-grey : (x : ℕ) → Is c grey x → ⊥) where
   old : {z : ℕ} → S (turn c) z → S c z

@@ -1,5 +1,5 @@
 -- A write to a table, seen as functions.
-use Rattle.std.proofs.Common.{◌≡◌, ℕ, zero, suc, ◌+◌, ◌-◌, ◌<◌, ◌≤◌, Bool, true, false, cond, not, ◌&&◌, eqb, ◌⊎◌, List, [], ◌∷◌, length, get_or, set, sym, refl, ap, ◌∙◌, subst, inl, inr, arith, get_or-set_other, get_or-set_same}
+use Rattle.std.proofs.Common.{◌≡◌, ℕ, ◌<◌, Bool, false, List, length, get_or, set, sym, ap, ◌∙◌, inl, inr, get_or-set_other, get_or-set_same}
 use mathlib.Core.Path.{fun_ext}
 use Rattle.lists.specs.Sets.{Sets}
 use Rattle.lists.specs.declared.waiting.Set.{Set}
@@ -7,13 +7,12 @@ use Rattle.rules.specs.declared.cell.Cell.{Cell}
 use Rattle.rules.specs.declared.worker.Worker.{Worker}
 use Rattle.rules.specs.Cells.{no_cell}
 use Rattle.rules.specs.Workers.{no_worker}
-use Rattle.rules.specs.States.{State, cell, worker}
+use Rattle.rules.specs.States.{State, worker}
 use Rattle.rules.proofs.Seen.{shade, parent, seen_worker, seen_cells, seen_workers, root_of, box_of, view}
 use Rattle.rules.proofs.Heap.{upd, Cells}
 use Rattle.rules.proofs.From1.{from1}
-use Rattle.rules.proofs.Walkers.{Worker as Walker}
-use Rattle.rules.proofs.Moves.{View, moved, called}
-use Rattle.rules.proofs.Basics.{upd_here, upd_other, same?, upd_at}
+use Rattle.rules.proofs.Moves.{moved, called}
+use Rattle.rules.proofs.Basics.{upd_other, same?, upd_at}
 
 pub wrote : {A B : Type 0} (xs : List A) (d : A) (k : ℕ) (v : A) → k < length xs → (f : ℕ → A → B) → ◌≡◌ {A = ℕ → B} (λ z. f z (get_or (set xs k v) z d)) (upd (λ z. f z (get_or xs z d)) k (f k v))
 wrote xs d k v h f = fun_ext (λ z. elim (same? z k) [

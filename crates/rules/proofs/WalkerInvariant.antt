@@ -1,7 +1,7 @@
 -- The invariant of a worker in step, by its label.
 -- A taken cell still counts as a member of what it was taken from, until the label after it is done.
-use Rattle.std.proofs.Common.{◌≡◌, ℕ, ◌≤◌, Bool, true, false, ◌⊎◌, List, [], ◌∷◌, inl, inr}
-use Rattle.rules.proofs.Heap.{upd, Colour, white, black, grey, Father, none, source, under, Cells, Fresh, Claimed, Is, Child, Traced, S}
+use Rattle.std.proofs.Common.{◌≡◌, ℕ, ◌≤◌, Bool, true, false, ◌⊎◌, List, [], ◌∷◌}
+use Rattle.rules.proofs.Heap.{upd, black, grey, source, under, Cells, Fresh, Claimed, Is, Traced, S}
 use Rattle.rules.proofs.CellInvariant.{Done}
 use Rattle.rules.proofs.Walkers.{Label, idle, l101, l108, l121, l122, l126, l150, l151, l157, l158, l163, l168, l175, l180, l129, l134, l135, l137, Worker}
 

@@ -1,9 +1,9 @@
 -- The labelled steps of a worker, as a relation: cells and worker before, cells and worker after.
-use Rattle.std.proofs.Common.{◌≡◌, ℕ, suc, Bool, true, false, ◌⊎◌, List, [], ◌∷◌, inl, inr}
-use Rattle.rules.proofs.Heap.{upd, Colour, white, black, grey, Father, none, source, under, Cells, Is}
+use Rattle.std.proofs.Common.{◌≡◌, ℕ, suc, Bool, true, false, ◌⊎◌, List, [], ◌∷◌}
+use Rattle.rules.proofs.Heap.{upd, grey, none, source, under, Cells, Is}
 use Rattle.rules.proofs.HeapChanges.{scan_by, claim, paint, whiten, turn}
 use Rattle.rules.proofs.Copies.{copies}
-use Rattle.rules.proofs.Walkers.{Label, idle, l101, l108, l121, l122, l126, l150, l151, l157, l158, l163, l168, l175, l180, l129, l134, l135, l137, Worker, goto, with_check, with_start, with_walk, no_cells}
+use Rattle.rules.proofs.Walkers.{idle, l101, l108, l121, l122, l126, l150, l151, l157, l158, l163, l168, l175, l180, l129, l134, l135, l137, Worker, goto, with_check, with_start, with_walk, no_cells}
 
 abbrev pub InStep : Cells → Worker → Type 0
 InStep c w = w.own ≡ c.rnd

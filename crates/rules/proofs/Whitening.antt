@@ -1,8 +1,8 @@
-use Rattle.std.proofs.Common.{◌≡◌, ℕ, zero, suc, ◌+◌, ◌-◌, ◌<◌, ◌≤◌, Bool, true, false, cond, ◌⊎◌, sym, refl, ap, ◌∙◌, subst, inl, inr, arith}
-use Rattle.rules.proofs.Heap.{upd, Colour, white, black, grey, Father, none, source, under, Cells, Fresh, Claimed, Is, Child, Traced, S, s_source, s_claimed, s_black, s_old, s_grey, Rooted, r_source, r_under}
-use Rattle.rules.proofs.CellInvariant.{Global, Done, Keeps}
+use Rattle.std.proofs.Common.{ℕ, refl, inl, inr, arith}
+use Rattle.rules.proofs.Heap.{grey, Cells, Is, S, s_source, s_claimed, s_black, s_old, s_grey, Rooted, r_source, r_under}
+use Rattle.rules.proofs.CellInvariant.{Global, Keeps}
 use Rattle.rules.proofs.HeapChanges.{whiten}
-use Rattle.rules.proofs.Basics.{upd_here, upd_other, same?}
+use Rattle.rules.proofs.Basics.{same?}
 
 module _ (In : ℕ → Type 0) (c : Cells) (x : ℕ) (g : Global In c) (xGrey : Is c grey x) (none-grey : (z : ℕ) → S c z → Is c grey z → ⊥) where
   kept : {z : ℕ} → S c z → S (whiten c x) z

@@ -1,5 +1,5 @@
 -- The worked example, computed from the definitions.
-use Rattle.std.proofs.Common.{◌≡◌, ℕ, zero, suc, ◌+◌, ◌<◌, ◌≤◌, Bool, true, false, cond, ◌⊎◌, List, [], ◌∷◌, length, get_or, Ok, Err, sym, refl, ap, ◌∙◌, subst, inl, inr, arith}
+use Rattle.std.proofs.Common.{◌≡◌, ℕ, zero, suc, ◌<◌, ◌≤◌, Bool, true, false, List, [], ◌∷◌, length, Ok, Err, sym, refl, ◌∙◌, inl, inr, arith}
 use Rattle.lists.specs.Sets.{after_fill}
 use Rattle.lists.specs.declared.waiting.Set.TheVariants.{Check}
 use Rattle.graph.specs.Nets.{stay}
@@ -11,7 +11,7 @@ use Rattle.rules.specs.Workers.{at_label, with_own}
 use Rattle.rules.specs.States.{State, cell, worker, with_cell, with_worker, with_sets, HasCell, Reach, opened, idle}
 use Rattle.rules.specs.Calls.{add_root, drop_root, one_putoff_more}
 use Rattle.rules.specs.Laws.{Event, create, add_child, unprotect, send, begin, run, Moment, moment, told, nothing, after, History, started, then}
-use Rattle.rules.specs.Worked.{made_and_left, worked, WorkedExample}
+use Rattle.rules.specs.Worked.{made_and_left, WorkedExample}
 use Rattle.rules.specs.Rounds.{StepsInRow, none}
 use Rattle.rules.proofs.Keeping.{none_at}
 use Rattle.rules.proofs.Lawful.{good}

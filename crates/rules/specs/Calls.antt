@@ -1,12 +1,12 @@
 -- Open and the eleven calls: what is asked of each, in the order of the refusals' numbers, what it answers, and what it does.
 -- Assumes nothing.
 use Rattle.std.specs.Prelude.{◌≡◌, ℕ, ◌+◌, ◌<◌, ◌≤◌, Bool, true, false, cond, ◌⊎◌, List, [], ◌∷◌, length, Ok, Err, Result, ◌≢◌, nat_lt, slice_set}
-use Rattle.lists.specs.Sets.{Sets, after_fill}
+use Rattle.lists.specs.Sets.{after_fill}
 use Rattle.lists.specs.declared.waiting.Set.TheVariants.{Check}
 use Rattle.graph.specs.Nets.{Within}
 use Rattle.rules.specs.declared.cell.Colour.TheVariants.{White}
 use Rattle.rules.specs.declared.refusal.Refusal.{Refusal}
-use Rattle.rules.specs.declared.refusal.Refusal.TheVariants.{Cells, Workers, FirstRound, NoWorker, NotIdle, Idle, ListLength, NoCell, OutsideReach, NotWhite, AlreadyRoot, NotRoot, BoxFull, BoxEmpty, SourcesFull, LastRound}
+use Rattle.rules.specs.declared.refusal.Refusal.TheVariants.{Cells, Workers, FirstRound, NoWorker, NotIdle, ListLength, NoCell, OutsideReach, NotWhite, AlreadyRoot, NotRoot, BoxFull, BoxEmpty, SourcesFull, LastRound}
 use Rattle.rules.specs.declared.worker.Label.TheVariants.{L101}
 use Rattle.rules.specs.Refusals.{number}
 use Rattle.rules.specs.Cells.{place, within, with_sources, with_putoff, with_child, made}

@@ -5,7 +5,7 @@ use Rattle.graph.specs.Nets.{Within}
 use Rattle.rules.specs.declared.cell.Colour.TheVariants.{White}
 use Rattle.rules.specs.declared.refusal.Refusal.{Refusal}
 use Rattle.rules.specs.declared.worker.Label.{Label}
-use Rattle.rules.specs.States.{State, cell, HasCell, HasWorker, opened}
+use Rattle.rules.specs.States.{State, cell, HasCell, opened}
 use Rattle.rules.specs.Calls.{Creates, AddsChild, GetsChild, Makes, Protects, UnProtects, Sends, Receives, Begins}
 use Rattle.rules.specs.Rounds.{Steps, Runs}
 

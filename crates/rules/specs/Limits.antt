@@ -1,6 +1,6 @@
 -- The limits of the counts, the stacks and the rounds. Assumes nothing.
 use Rattle.std.specs.Prelude.{ℕ, ◌≤◌}
-use Rattle.rules.specs.States.{State, cell, worker, HasCell, HasWorker}
+use Rattle.rules.specs.States.{cell, worker, HasCell, HasWorker}
 use Rattle.rules.specs.Laws.{Moment}
 
 -- no source count passes the limit, and no more is put off than there are sources

@@ -1,10 +1,8 @@
 -- What a store is, with its waiting lists told by what they hold. Assumes nothing.
-use Rattle.std.specs.Prelude.{◌≡◌, ℕ, ◌≤◌, Bool, true, false, ◌⊎◌, List, [], ◌∷◌, set, replicate, ◌==◌, slice_index, slice_index_or, slice_set}
+use Rattle.std.specs.Prelude.{◌≡◌, ℕ, Bool, true, false, ◌⊎◌, List, replicate, ◌==◌, slice_index, slice_index_or, slice_set}
 use Rattle.lists.specs.Sets.{Sets}
 use Rattle.graph.specs.Nets.{Net, Within, Reached}
 use Rattle.rules.specs.declared.cell.Cell.{Cell}
-use Rattle.rules.specs.declared.cell.Father.TheVariants.{Source}
-use Rattle.rules.specs.declared.worker.Label.{Label}
 use Rattle.rules.specs.declared.worker.Worker.{Worker}
 use Rattle.rules.specs.Cells.{no_cell, free, children, traced}
 use Rattle.rules.specs.Workers.{label_number, no_worker, resting}

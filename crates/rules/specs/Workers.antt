@@ -1,5 +1,5 @@
 -- A worker, what stands past the end of the table, and what is changed of a worker at a time. Assumes nothing.
-use Rattle.std.specs.Prelude.{ℕ, Bool, true, false, List, [], replicate}
+use Rattle.std.specs.Prelude.{ℕ, Bool, false, List, [], replicate}
 use Rattle.rules.specs.declared.worker.Label.{Label}
 use Rattle.rules.specs.declared.worker.Label.TheVariants.{Idle, L101, L108, L121, L122, L126, L150, L151, L157, L158, L163, L168, L175, L180, L129, L134, L135, L137}
 use Rattle.rules.specs.declared.worker.Worker.{Worker}

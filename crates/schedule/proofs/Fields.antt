@@ -1,5 +1,5 @@
 -- The fields of a record, one after another.
-use Rattle.std.proofs.Common.{◌≡◌, ℕ, ◌+◌, ◌-◌, ◌*◌, Bool, true, false, cond, List, [], ◌∷◌, ◌++◌, length, get_or, sym, refl, ap, ◌∙◌, append_assoc, zero-add, one-add, arith}
+use Rattle.std.proofs.Common.{◌≡◌, ℕ, ◌+◌, ◌*◌, Bool, true, false, cond, List, [], ◌∷◌, ◌++◌, length, get_or, sym, refl, ap, ◌∙◌, append_assoc, zero-add, one-add, arith}
 use Rattle.std.proofs.lemmas.List.{length-append}
 use Rattle.schedule.specs.declared.call.CallRecord.{CallRecord}
 use Rattle.schedule.specs.declared.call.Children.{Children}

@@ -1,5 +1,5 @@
 ghost use Rattle.std.specs.Prelude.{◌≡◌, min, take, Some, MatchResult, slice_index};
-ghost use Rattle.schedule.specs.Calls.{operation as operation-of, worker as worker-of, record_of, said, record_tests, Writable, padded, children};
+ghost use Rattle.schedule.specs.Calls.{operation as operation_of, worker as worker_of, record_of, said, record_tests, Writable, padded, children};
 ghost use Rattle.schedule.specs.Tests.{FailsFirst};
 
 use crate::fault::Fault;
@@ -127,7 +127,7 @@ impl Children {
 impl Call {
     /// The number of the operation, 1 to 11.
     pub fn operation(&self) -> u8
-        ensures { result ≡ operation-of self.now }
+        ensures { result ≡ operation_of self.now }
     {
         match self {
             Call::Create { .. } => 1,
@@ -146,7 +146,7 @@ impl Call {
 
     /// The worker that makes the call.
     pub fn worker(&self) -> u8
-        ensures { result ≡ worker-of self.now }
+        ensures { result ≡ worker_of self.now }
     {
         match self {
             Call::Create { worker, .. }

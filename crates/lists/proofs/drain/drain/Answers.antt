@@ -1,7 +1,7 @@
 -- Each turn takes one member and writes it down.
-use Rattle.std.proofs.Common.{◌≡◌, ◌<◌, ◌≤◌, true, sym, ◌∙◌, arith, rules}
+use Rattle.std.proofs.Common.{◌≡◌, ◌≤◌, true, sym, ◌∙◌, arith, rules}
 use Rattle.std.proofs.lemmas.Bool.Decides.{nat_tests}
-use Rattle.lists.specs.Sets.{Sets, takes, filled, cleared}
+use Rattle.lists.specs.Sets.{takes, filled, cleared}
 use Rattle.lists.proofs.Draining.{begins, falls, fits, goes, each, emptied}
 use Rattle.lists.proofs.Rows.{chosen}
 use Rattle.lists.proofs.drain.drain.Goals as goal

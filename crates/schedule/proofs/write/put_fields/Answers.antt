@@ -1,5 +1,5 @@
 -- Each field is written after the one before it, so the rows join from the last one back.
-use Rattle.std.proofs.Common.{◌+◌, [], ◌∷◌, ◌++◌, ap, ◌∙◌, arith}
+use Rattle.std.proofs.Common.{[], ◌∷◌, ◌++◌, ap, ◌∙◌, arith}
 use Rattle.std.proofs.lemmas.List.{length-append}
 use Rattle.schedule.specs.Format.{when, list_bytes, two_bytes}
 use Rattle.schedule.specs.Strip.{put}

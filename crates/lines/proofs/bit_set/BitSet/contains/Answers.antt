@@ -1,4 +1,4 @@
-use Rattle.std.proofs.Common.{◌≡◌, ◌/◌, ◌%◌, ◌^◌, eqb, get_or, ap}
+use Rattle.std.proofs.Common.{◌/◌, ◌%◌, ◌^◌, eqb, get_or, ap}
 use lib.Bits.{and_mask}
 use Rattle.lines.specs.Bits.{held}
 use Rattle.lines.proofs.bit_set.BitSet.contains.Goals as goal

@@ -1,4 +1,4 @@
-use Rattle.std.proofs.Common.{◌≡◌, ◌∙◌, arith, length-set}
+use Rattle.std.proofs.Common.{◌∙◌, arith, length-set}
 use Rattle.lines.specs.Digits.{inserted}
 use Rattle.lines.proofs.bit_set.BitSet.insert.Goals as goal
 

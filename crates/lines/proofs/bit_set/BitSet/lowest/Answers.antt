@@ -1,4 +1,4 @@
-use Rattle.std.proofs.Common.{◌≡◌, ◌^◌, ◌<◌, get_or, arith, rules}
+use Rattle.std.proofs.Common.{◌^◌, ◌<◌, get_or, arith, rules}
 use Rattle.lines.specs.Digits.{none_held, lowest_held}
 use Rattle.lines.proofs.bit_set.BitSet.lowest.Goals as goal
 

@@ -1,4 +1,4 @@
-use Rattle.std.proofs.Common.{◌≡◌, false, length, take, sym, ap, ◌∙◌, arith, rules}
+use Rattle.std.proofs.Common.{◌≡◌, length, take, sym, ap, ◌∙◌, arith, rules}
 use Rattle.lines.specs.Lines.{in_line, orderly}
 use Rattle.lines.specs.InLine.{orderly_without, without_stranger}
 use Rattle.lines.proofs.Placing.{marks_less}

@@ -1,4 +1,4 @@
-use Rattle.std.proofs.Common.{◌≡◌, List, [], get_or, Some, None, sym, refl, ap, ◌∙◌, rules}
+use Rattle.std.proofs.Common.{◌≡◌, [], Some, sym, ap, ◌∙◌, rules}
 use Rattle.lines.specs.Lines.{first, rest, without}
 use Rattle.lists.specs.Tables.{rows_lines}
 use Rattle.lines.specs.InLine.{first_none, first_left}

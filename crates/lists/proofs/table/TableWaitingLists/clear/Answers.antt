@@ -1,4 +1,4 @@
-use Rattle.std.proofs.Common.{◌≡◌, ap, ◌∙◌}
+use Rattle.std.proofs.Common.{ap, ◌∙◌}
 use Rattle.lists.specs.Tables.{lines, members}
 use Rattle.lists.proofs.Told.{told_clear}
 use Rattle.lists.proofs.table.TableWaitingLists.clear.Goals as goal

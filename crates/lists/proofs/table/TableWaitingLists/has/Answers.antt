@@ -1,6 +1,6 @@
-use Rattle.std.proofs.Common.{◌≡◌, ap, ◌∙◌}
+use Rattle.std.proofs.Common.{◌∙◌}
 use Rattle.lists.proofs.Rows.{rows_orderly, rows_absent}
-use Rattle.lists.specs.Tables.{lines, members}
+use Rattle.lists.specs.Tables.{lines}
 use Rattle.lists.proofs.Told.{told_has}
 use Rattle.lists.proofs.table.TableWaitingLists.has.Goals as goal
 

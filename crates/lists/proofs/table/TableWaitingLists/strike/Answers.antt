@@ -1,4 +1,4 @@
-use Rattle.std.proofs.Common.{◌≡◌, ap, ◌∙◌}
+use Rattle.std.proofs.Common.{ap, ◌∙◌}
 use Rattle.lists.specs.Tables.{lines, members}
 use Rattle.lists.proofs.Told.{told_strike}
 use Rattle.lists.proofs.table.TableWaitingLists.strike.Goals as goal

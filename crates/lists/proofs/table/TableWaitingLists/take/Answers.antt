@@ -1,6 +1,5 @@
-use Rattle.std.proofs.Common.{◌≡◌, ap, ◌∙◌}
 use Rattle.lists.proofs.Rows.{rows_orderly, rows_absent}
-use Rattle.lists.specs.Tables.{lines, members}
+use Rattle.lists.specs.Tables.{lines}
 use Rattle.lists.proofs.Told.{told_take}
 use Rattle.lists.proofs.table.TableWaitingLists.take.Goals as goal
 
