@@ -17,15 +17,15 @@ pub trait WaitingLists {
     /// The highest cell number that the kind can carry.
     const HIGHEST: u8;
 
-    // The number that `HIGHEST` is, which a clause cannot name.
+    // The number that `HIGHEST` is.
     ghost top: { ℕ };
 
     ghost sets: { Self → Sets };
 
-    // A law of every kind, held as a member: a law proper cannot be had of a table over any kind of set.
+    // A law of every kind: the highest number is from 1 to 255.
     ghost bounded: { Bounded top };
 
-    // Another law: absent sets are empty, and members are from 1 to the highest.
+    // Another law of every kind: absent sets are empty, and members are from 1 to the highest.
     ghost within: { (s : Self) → Within top (sets s) };
 
     /// The kind's `HIGHEST`.

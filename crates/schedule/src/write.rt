@@ -33,7 +33,7 @@ fn put_list(strip: &mut [u8], at: usize, list: &Children) -> usize
 
 /// A list if it is wanted.
 fn put_list_if(strip: &mut [u8], at: usize, wanted: bool, list: &Children) -> usize
-    requires { ((wanted ≡ true → list.now.count ≤ 8)) × (at + length (when wanted (list_bytes list.now)) ≤ length strip.old) }
+    requires { (wanted ≡ true → list.now.count ≤ 8) × (at + length (when wanted (list_bytes list.now)) ≤ length strip.old) }
     ensures next { result ≡ at + length (when wanted (list_bytes list.now)) }
     ensures after { strip.new ≡ put at (when wanted (list_bytes list.now)) strip.old }
 {
@@ -59,7 +59,7 @@ fn put_number_if(strip: &mut [u8], at: usize, wanted: bool, number: u16) -> usiz
 
 /// The fields that follow the worker.
 fn put_fields(strip: &mut [u8], at: usize, fields: Fields, record: &CallRecord) -> usize
-    requires { ((fields.list ≡ true → «record».now.list.count ≤ 8)) × (at + length (field_bytes fields «record».now) ≤ length strip.old) }
+    requires { (fields.list ≡ true → «record».now.list.count ≤ 8) × (at + length (field_bytes fields «record».now) ≤ length strip.old) }
     ensures next { result ≡ at + length (field_bytes fields «record».now) }
     ensures after { strip.new ≡ put at (field_bytes fields «record».now) strip.old }
 {
@@ -95,7 +95,7 @@ fn list_size(wanted: bool, list: &Children) -> usize
 
 /// How many bytes a record takes, after a record of the worker `before`.
 fn record_size(before: Option<u8>, record: &CallRecord) -> usize
-    ensures { ((Writable «record».now → result ≡ length (record_bytes before «record».now))) × (result ≤ 263) }
+    ensures { (Writable «record».now → result ≡ length (record_bytes before «record».now)) × (result ≤ 263) }
 {
     let fields = Fields::of(record.operation);
     let given = worker_differs(before, record.worker);
