@@ -1,62 +1,50 @@
--- A line kept in an array: there is room for a newcomer, and what the first and the last cell of it are.
-use Rattle.std.proofs.Common.{◌≡◌, ℕ, zero, suc, ◌+◌, ◌-◌, ◌<◌, ◌≤◌, Bool, true, false, cond, not, ◌&&◌, ◌||◌, eqb, leb, List, [], ◌∷◌, ◌++◌, reverse, length, get_or, take, Some, sym, refl, ap, ◌∙◌, inl, inr, arith}
-use Rattle.std.proofs.lemmas.List.{length_push, length-take-le, take_more, reverse-append}
-use Rattle.std.proofs.lemmas.Bool.Decides.{nat_tests, eqb_tells}
+-- A line kept in a vector of 255 places: there is room for a newcomer, who leaves it leaves one place, and what the marks are after each.
+use Rattle.std.proofs.Common.{◌≡◌, ℕ, zero, suc, ◌+◌, ◌<◌, ◌≤◌, Bool, true, false, cond, not, ◌&&◌, ◌||◌, eqb, leb, List, [], ◌∷◌, ◌++◌, length, get_or, Some, sym, refl, ap, ◌∙◌, inl, inr, arith}
+use Rattle.std.specs.Prelude.{◌==◌, None, position, remove}
+use Rattle.std.specs.List.{AllByRecursion, IsDistinct, list_any, position_or_len}
+use Rattle.std.proofs.lemmas.Map.Steps.{length-le_from_distinct_below}
+use Rattle.std.proofs.lemmas.List.Quantifiers.{position-Some}
+use Rattle.std.proofs.lemmas.List.{length_push}
+use Rattle.std.proofs.lemmas.Bool.Decides.{nat_tests, eqb_tells, leb_tells}
 use Rattle.lines.specs.Numbers.{in_range}
-use Rattle.lines.specs.Lines.{in_line, orderly, without, first}
+use Rattle.lines.specs.Lines.{in_line, orderly, without}
 use Rattle.lines.specs.Bits.{held, HeldToo, HeldBut}
-use Rattle.lines.specs.InLine.{in_append, in_without, without_stranger, orderly_push, orderly_without, orderly_lower}
+use Rattle.lines.specs.InLine.{in_append, in_without, without_stranger, orderly_push, stranger}
 
--- who stands once leaves one place
-length_without : (n : ℕ) (l : List ℕ) (x : ℕ) → orderly n l ≡ true → length l ≤ suc (length (without l x))
-length_without n [] x h = omega arith
-length_without n (y ∷ l) x h =
-    let h' : orderly n l ≡ true = grind (arith, nat_tests) in
-    let ih = length_without n l x h' in
-    elim (eqb_tells y x) [
-      | inl e ↦
-          let out : in_line x l ≡ false = ap (λ v. in_line v l) (sym e.1) ∙ (grind (arith, nat_tests)) in
-          let s : length (without (y ∷ l) x) ≡ length l = ap (λ b. length (cond (not b) (y ∷ without l x) (without l x))) e.0 ∙ ap length (without_stranger l x out) in
-          omega arith
-      | inr e ↦
-          let s : length (without (y ∷ l) x) ≡ suc (length (without l x)) = ap (λ b. length (cond (not b) (y ∷ without l x) (without l x))) e.0 in
-          omega arith
+-- no number of the line is x
+apart : (x : ℕ) (l : List ℕ) → in_line x l ≡ false → AllByRecursion (λ y. eqb x y ≡ false) l
+apart x [] h = tt
+apart x (y ∷ l) h = (grind (arith, nat_tests), apart x l (grind (arith, nat_tests)))
+
+-- in an orderly line no number stands twice
+distinct : (n : ℕ) (l : List ℕ) → orderly n l ≡ true → IsDistinct eqb l
+unfolding IsDistinct
+distinct n [] h = tt
+distinct n (x ∷ l) h = (apart x l (grind (arith, nat_tests)), distinct n l (grind (arith, nat_tests)))
+
+-- so there is room for a newcomer: with 0 and the newcomer they are numbers below 256, each once
+pub room : (l : List ℕ) (x : ℕ) → orderly 255 l ≡ true → in_range x 255 ≡ true → in_line x l ≡ false → length l < 255
+unfolding IsDistinct
+room l x h fit out =
+    let all = l ++ x ∷ [] in
+    let stand = orderly_push 255 l x h fit out in
+    let below : (q : ℕ) → list_any (eqb q) (0 ∷ all) ≡ true → q < 256 = λ q there. at all stand q there in
+    let few = length-le_from_distinct_below (0 ∷ all) 256 (each all stand) below in
+    let a = length_push l x in
+    omega arith
+  where
+    same : (l : List ℕ) (c : ℕ) → list_any (eqb c) l ≡ in_line c l
+    same [] c = refl
+    same (y ∷ l) c = ap (λ b. eqb c y || b) (same l c)
+
+    at : (l : List ℕ) → orderly 255 l ≡ true → (q : ℕ) → list_any (eqb q) (0 ∷ l) ≡ true → q < 256
+    at l h q there = elim (leb_tells 256 q) [
+      | inl e ↦ let e1 = e.1 in let gone = stranger 255 l h q (grind (arith, nat_tests)) in let s = same l q in grind (arith, nat_tests)
+      | inr e ↦ e.1
     ]
 
--- no more numbers than there are
-pub no_more : (n : ℕ) (l : List ℕ) → orderly n l ≡ true → length l ≤ n
-no_more zero [] h = omega arith
-no_more zero (x ∷ l) h = let z : ◌≡◌ {A = Bool} true false = sym h ∙ (grind (arith, nat_tests)) in let w : ◌≡◌ {A = ℕ} 0 1 = cc in absurd (omega arith)
-no_more (suc n) l h =
-    let out : in_line (suc n) (without l (suc n)) ≡ false = in_without l (suc n) (suc n) ∙ (grind (arith, nat_tests)) in
-    let ih = no_more n (without l (suc n)) (orderly_lower n (without l (suc n)) (orderly_without (suc n) l (suc n) h) out) in
-    let s = length_without (suc n) l (suc n) h in
-    omega arith
-
-module _ (cells : List ℕ) (count : ℕ) (long : length cells ≡ 255) (fits : count ≤ 255) where
-  pub room : (x : ℕ) → orderly 255 (take count cells) ≡ true → in_range x 255 ≡ true → in_line x (take count cells) ≡ false → count < 255
-  room x h fit out =
-      let m = no_more 255 (take count cells ++ x ∷ []) (orderly_push 255 (take count cells) x h fit out) in
-      let a = length_push (take count cells) x in
-      let b = length-take-le count cells (omega arith) in
-      omega arith
-
-  pub front : (count ≡ 0 → ⊥) → Some (get_or cells 0 0) ≡ first (take count cells)
-  front some = at cells count (omega arith) some
-    where
-      at : (xs : List ℕ) (n : ℕ) → 0 < length xs → (n ≡ 0 → ⊥) → Some (get_or xs 0 0) ≡ first (take n xs)
-      at [] n lt some = absurd (omega arith)
-      at (x ∷ xs) zero lt some = absurd (some refl)
-      at (x ∷ xs) (suc n) lt some = refl
-
-  pub back : (count ≡ 0 → ⊥) → Some (get_or cells (count - 1) 0) ≡ first (reverse (take count cells))
-  back some =
-      let i = count - 1 in
-      let e : i + 1 ≡ count = omega arith in
-      let y = get_or cells i 0 in
-      sym (ap (λ n. first (reverse (take n cells))) (sym e)
-      ∙ ap (λ l. first (reverse l)) (take_more cells i 0 (omega arith))
-      ∙ ap first (reverse-append (take i cells) (y ∷ [])))
+    each : (l : List ℕ) → orderly 255 l ≡ true → IsDistinct eqb (0 ∷ l)
+    each l h = (apart 0 l (stranger 255 l h 0 (grind (arith, nat_tests))), distinct 255 l h)
 
 -- the marks of a line that x has joined
 pub marks_more : (old new l : List ℕ) (x : ℕ) → 1 ≤ x → ((c : ℕ) → held old c ≡ in_line c l) → HeldToo old x new → (c : ℕ) → held new c ≡ in_line c (l ++ x ∷ [])
@@ -67,3 +55,48 @@ marks_more old new l x pos marked too c =
 -- the marks of a line that x has left
 pub marks_less : (old new l : List ℕ) (x : ℕ) → ((c : ℕ) → held old c ≡ in_line c l) → HeldBut old x new → (c : ℕ) → held new c ≡ in_line c (without l x)
 marks_less old new l x marked but c = but c ∙ ap (λ b. not (eqb c x) && b) (marked c) ∙ sym (in_without l x c)
+
+-- where no place is found, the number does not stand in the line
+pub no_place : (l : List ℕ) (x : ℕ) → None ≡ position (λ y. y == x) l → in_line x l ≡ false
+no_place l x h = elim (leb_tells (suc (position_or_len (λ y. y == x) l)) (length l)) [
+  | inl e ↦ let differ : None ≡ Some (position_or_len (λ y. y == x) l) = h ∙ ap (λ b. cond b (Some (position_or_len (λ y. y == x) l)) None) e.0 in cc
+  | inr e ↦ let e1 = e.1 in out l (omega arith)
+]
+  where
+    out : (l : List ℕ) → length l ≤ position_or_len (λ y. y == x) l → in_line x l ≡ false
+    out [] h = refl
+    out (y ∷ l) h = elim (eqb_tells y x) [
+      | inl e ↦ let none : position_or_len (λ y. y == x) (y ∷ l) ≡ 0 = ap (λ b. cond (not b) (1 + position_or_len (λ y. y == x) l) 0) e.0 in absurd (omega arith)
+      | inr e ↦
+          let one : position_or_len (λ y. y == x) (y ∷ l) ≡ 1 + position_or_len (λ y. y == x) l = ap (λ b. cond (not b) (1 + position_or_len (λ y. y == x) l) 0) e.0 in
+          let e1 = e.1 in let ih = out l (omega arith) in grind (arith, nat_tests)
+    ]
+
+in_at : (l : List ℕ) (i : ℕ) → i < length l → in_line (get_or l i 0) l ≡ true
+in_at [] i lt = absurd (omega arith)
+in_at (y ∷ l) zero lt = grind (arith, nat_tests)
+in_at (y ∷ l) (suc i) lt = let ih = in_at l i (omega arith) in grind (arith, nat_tests)
+
+-- who stands at a place, and nowhere else, leaves it
+gone : (n : ℕ) (l : List ℕ) (i : ℕ) → orderly n l ≡ true → i < length l → remove l i ≡ without l (get_or l i 0)
+gone n [] i h lt = absurd (omega arith)
+gone n (y ∷ l) zero h lt =
+    let out : in_line y l ≡ false = grind (arith, nat_tests) in
+    let same : (y == y) ≡ true = grind (arith, nat_tests) in
+    sym (ap (λ b. cond (not b) (y ∷ without l y) (without l y)) same ∙ without_stranger l y out)
+gone n (y ∷ l) (suc i) h lt =
+    let x = get_or l i 0 in
+    let there = in_at l i (omega arith) in
+    let h' : orderly n l ≡ true = grind (arith, nat_tests) in
+    let out : in_line y l ≡ false = grind (arith, nat_tests) in
+    elim (eqb_tells y x) [
+      | inl e ↦ let both : in_line x l ≡ false = ap (λ v. in_line v l) (sym e.1) ∙ out in let z : ◌≡◌ {A = Bool} true false = sym there ∙ both in cc
+      | inr e ↦ ap (λ t. y ∷ t) (gone n l i h' (omega arith)) ∙ sym (ap (λ b. cond (not b) (y ∷ without l x) (without l x)) e.0)
+    ]
+
+-- who is found at a place leaves it
+pub left_place : (n : ℕ) (l : List ℕ) (x i : ℕ) → orderly n l ≡ true → Some i ≡ position (λ y. y == x) l → remove l i ≡ without l x
+left_place n l x i h at =
+    let found = position-Some (λ y. y == x) l i 0 (sym at) in
+    let is : get_or l i 0 ≡ x = let e = found.1 in grind (arith, nat_tests) in
+    gone n l i h found.0 ∙ ap (without l) is

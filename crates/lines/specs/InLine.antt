@@ -30,11 +30,11 @@ without_stranger (y ∷ l) x h =
 -- nobody is next in an empty line only
 pub first_none : (l : List ℕ) → None ≡ first l → l ≡ []
 first_none [] h = refl
-first_none (x ∷ l) h = let differ : None ≡ Some x = h in let z : ◌≡◌ {A = ℕ} 0 1 = cc in absurd (omega arith)
+first_none (x ∷ l) h = cc
 
 -- who is next stands once, so the others are the rest
 pub first_left : (n x : ℕ) (l : List ℕ) → orderly n l ≡ true → Some x ≡ first l → without l x ≡ rest l
-first_left n x [] h e = let differ : Some x ≡ None = e in let z : ◌≡◌ {A = ℕ} 0 1 = cc in absurd (omega arith)
+first_left n x [] h e = cc
 first_left n x (y ∷ l) h e =
     let same : Some x ≡ Some y = e in
     let s : x ≡ y = cc in
@@ -43,7 +43,7 @@ first_left n x (y ∷ l) h e =
     ap (without (y ∷ l)) s ∙ ap (λ b. cond (not b) (y ∷ without l y) (without l y)) t ∙ without_stranger l y m
 
 pub first_in : (x : ℕ) (l : List ℕ) → Some x ≡ first l → in_line x l ≡ true
-first_in x [] e = let differ : Some x ≡ None = e in let z : ◌≡◌ {A = ℕ} 0 1 = cc in absurd (omega arith)
+first_in x [] e = cc
 first_in x (y ∷ l) e =
     let same : Some x ≡ Some y = e in
     let s : x ≡ y = cc in
@@ -51,7 +51,7 @@ first_in x (y ∷ l) e =
 
 -- who stands in an orderly line is from 1 to n
 pub line_in_range : (n : ℕ) (l : List ℕ) → orderly n l ≡ true → (c : ℕ) → in_line c l ≡ true → in_range c n ≡ true
-line_in_range n [] h c m = let z : ◌≡◌ {A = Bool} false true = m in cc
+line_in_range n [] h c m = cc
 line_in_range n (x ∷ l) h c m =
     let k : orderly n l ≡ true = grind (arith, nat_tests) in
     let r : in_range x n ≡ true = grind (arith, nat_tests) in
@@ -116,16 +116,6 @@ orderly_without n (y ∷ l) x h =
       | inl e ↦ ap (λ b. orderly n (cond (not b) (y ∷ without l x) (without l x))) e.0 ∙ ih
       | inr e ↦ ap (λ b. orderly n (cond (not b) (y ∷ without l x) (without l x))) e.0 ∙ (let e0 = e.0 in grind (arith, nat_tests))
     ]
-
--- a line without the highest number
-pub orderly_lower : (n : ℕ) (l : List ℕ) → orderly (suc n) l ≡ true → in_line (suc n) l ≡ false → orderly n l ≡ true
-orderly_lower n [] h out = refl
-orderly_lower n (y ∷ l) h out =
-    let h' : orderly (suc n) l ≡ true = grind (arith, nat_tests) in
-    let out' : in_line (suc n) l ≡ false = grind (arith, nat_tests) in
-    let apart : nat_eq (suc n) y ≡ false = grind (arith, nat_tests) in
-    let ih = orderly_lower n l h' out' in
-    grind (arith, nat_tests)
 
 -- at the end, the newcomer and all others stand
 pub at_end_adds : (l : List ℕ) (x c : ℕ) → in_line c (at_end l x) ≡ (c == x || in_line c l)

@@ -151,7 +151,7 @@ module _ (f g : ℕ → Bool) (x : ℕ) (more : (c : ℕ) → g c ≡ ((nat_le 1
       outside : (c : ℕ) → 1 ≤ c → c ≤ n → c ≡ x → in_range x n ≢ false
       outside c lo hi s out =
           let z : in_range x n ≡ true = grind (arith, nat_tests) in
-          let w : ◌≡◌ {A = Bool} true false = sym z ∙ out in let zz : ◌≡◌ {A = ℕ} 0 1 = cc in omega arith
+          let w : ◌≡◌ {A = Bool} true false = sym z ∙ out in cc
 
 -- the line after Strike
 pub rising_strike : (f g : ℕ → Bool) (x : ℕ) → ((c : ℕ) → g c ≡ (not (c == x) && f c)) → (n : ℕ) → rising g n ≡ without (rising f n) x
@@ -169,7 +169,7 @@ rising_strike f g x less (suc n) =
     one false false e = refl
 
 first_append : (l t : List ℕ) (x : ℕ) → first l ≡ Some x → first (l ++ t) ≡ Some x
-first_append [] t x e = let differ : None ≡ Some x = e in let z : ◌≡◌ {A = ℕ} 0 1 = cc in absurd (omega arith)
+first_append [] t x e = cc
 first_append (y ∷ l) t x e = e
 
 -- who is next in the line

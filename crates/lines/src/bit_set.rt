@@ -39,21 +39,14 @@ impl BitSet {
     pub fn remove(&mut self, cell: u8)
         ensures { HeldBut self.old.words cell self.new.words }
     {
-        if self.contains(cell) {
-            self.words[cell as usize / 64] ^= 1 << (cell % 64);
-        }
+        self.words[cell as usize / 64] &= !(1 << (cell % 64));
     }
 
     /// The lowest member, found in the first word that is not 0.
     pub fn lowest(&self) -> Option<u8>
         ensures { Lowest self.now.words result }
     {
-        for i in 0..4usize {
-            let word = self.words[i];
-            if word != 0 {
-                return Some((64 * i + word.trailing_zeros() as usize) as u8);
-            }
-        }
-        None
+        let first = self.words.iter().position(|word| *word != 0)?;
+        Some(64 * first as u8 + self.words[first].trailing_zeros() as u8)
     }
 }

@@ -5,12 +5,12 @@ ghost use Rattle.lines.specs.Numbers.{Bounded};
 ghost use Rattle.lines.specs.Lines.{Joining, in_line, orderly, after_put_line, without, first};
 
 /// One set of cell numbers. A kind of set is told by where a newcomer joins its line.
-pub trait CellSet: Sized + Copy {
+pub trait CellSet: Sized + Drop {
     /// The highest cell number that the kind can carry.
     const HIGHEST: u8;
 
-    // The number that `HIGHEST` is.
-    ghost most: { ℕ };
+    // The constant, as clauses name it. An impl says the number for each of the two, and the check proves them equal.
+    ghost HIGHEST: { ℕ };
 
     // The members, in the order in which they will be taken.
     ghost line: { Self → List ℕ };
@@ -18,12 +18,12 @@ pub trait CellSet: Sized + Copy {
     // Where a newcomer joins the line.
     ghost joins: { Joining };
 
-    // The highest number is from 1 to 255.
-    ghost limits: { Bounded most };
-
     /// The kind's `HIGHEST`.
-    fn highest_cell() -> u8
-        ensures { result ≡ most };
+    final fn highest_cell() -> u8
+        ensures { result ≡ HIGHEST }
+    {
+        Self::HIGHEST
+    }
 
     /// The empty set.
     fn empty() -> Self
@@ -31,7 +31,7 @@ pub trait CellSet: Sized + Copy {
 
     /// Adds a cell from 1 to the highest; any other number alters nothing.
     fn put(&mut self, cell: u8)
-        ensures { line self.new ≡ after_put_line joins most (line self.old) cell };
+        ensures { line self.new ≡ after_put_line joins HIGHEST (line self.old) cell };
 
     /// Removes a cell; removing a stranger alters nothing.
     fn strike(&mut self, cell: u8)
@@ -45,8 +45,11 @@ pub trait CellSet: Sized + Copy {
     fn next(&self) -> Option<u8>
         ensures { result ≡ first (line self.now) };
 
+    // The highest number is from 1 to 255.
+    ghost limits: { Bounded HIGHEST };
+
     // Members are from 1 to the highest, and none stands twice.
-    ghost stands: { (s : Self) → orderly most (line s) ≡ true };
+    ghost stands: { (s : Self) → orderly HIGHEST (line s) ≡ true };
 
     // After a newcomer has joined, it and all others stand in the line.
     ghost adds: { (l : List ℕ) (x c : ℕ) → in_line c (joins l x) ≡ (c == x || in_line c l) };

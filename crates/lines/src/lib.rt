@@ -7,5 +7,4 @@ pub mod bit_set;
 pub mod cell_set;
 pub mod lowest_first;
 pub mod order;
-pub mod put_first;
 pub mod put_last;

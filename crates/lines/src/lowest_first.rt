@@ -1,4 +1,5 @@
 //! A bit set taken from below: the lowest member is next.
+//! The calls of `BitSet` promise bits, on which `Order` builds too; those here say what that means for the line.
 
 ghost use Rattle.std.specs.Prelude.{◌≡◌};
 ghost use Rattle.lines.specs.Bits.{held};
@@ -12,7 +13,7 @@ use crate::cell_set::CellSet;
 impl CellSet for BitSet {
     const HIGHEST: u8 = 255;
 
-    ghost most = { 255 };
+    ghost HIGHEST = { 255 };
 
     ghost line = { λ s. rising (held s.words) 255 };
 
@@ -23,10 +24,6 @@ impl CellSet for BitSet {
     ghost stands = { λ s. rising_all_orderly (held s.words) 255 };
 
     ghost adds = { by_number_adds };
-
-    fn highest_cell() -> u8 {
-        Self::HIGHEST
-    }
 
     fn empty() -> Self {
         BitSet::empty()

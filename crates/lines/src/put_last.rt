@@ -11,7 +11,7 @@ use crate::cell_set::CellSet;
 use crate::order::Order;
 
 /// A set of the numbers 1 to 100 that is taken from its end.
-#[derive(Clone, Copy)]
+#[derive(Drop)]
 pub struct Stack {
     cells: Order,
     ghost low: { orderly 100 (order cells) ≡ true },
@@ -20,7 +20,7 @@ pub struct Stack {
 impl CellSet for Stack {
     const HIGHEST: u8 = 100;
 
-    ghost most = { 100 };
+    ghost HIGHEST = { 100 };
 
     ghost line = { λ s. reverse (order s.cells) };
 
@@ -32,10 +32,6 @@ impl CellSet for Stack {
 
     ghost adds = { at_head_adds };
 
-    fn highest_cell() -> u8 {
-        Self::HIGHEST
-    }
-
     fn empty() -> Self {
         Stack {
             cells: Order::empty(),
@@ -44,16 +40,16 @@ impl CellSet for Stack {
 
     fn put(&mut self, cell: u8) {
         if cell <= Self::HIGHEST {
-            self.cells.insert(cell);
+            self.cells.put(cell);
         }
     }
 
     fn strike(&mut self, cell: u8) {
-        self.cells.remove(cell);
+        self.cells.strike(cell);
     }
 
     fn has(&self, cell: u8) -> bool {
-        self.cells.contains(cell)
+        self.cells.has(cell)
     }
 
     fn next(&self) -> Option<u8> {

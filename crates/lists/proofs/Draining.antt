@@ -4,9 +4,9 @@ use mathlib.Core.Path.{fun_ext}
 use Rattle.std.proofs.lemmas.List.{take_more_set, drop-set-lt, length-set}
 use Rattle.std.proofs.lemmas.Bool.Decides.{nat_tests, eqb_tells, leb_tells}
 use Rattle.lists.specs.declared.waiting.Set.{Set}
-use Rattle.lists.specs.Sets.{Sets, set_no, in_range, same_set, with_set, filled, cleared, struck}
-use Rattle.lists.specs.Drains.{one, times}
-use Rattle.lists.proofs.Rows.{told}
+use Rattle.lists.specs.Sets.{Sets, Within, set_no, in_range, takes, same_set, with_set, filled, cleared, struck, after_fill}
+use Rattle.lists.specs.Drains.{one, times, after_drain, Drained}
+use Rattle.lists.proofs.Rows.{told, chosen}
 
 -- how many numbers from 1 to m pass
 unfoldable pub size : (ℕ → Bool) → ℕ → ℕ
@@ -96,8 +96,14 @@ pub record Drawing (n w : ℕ) (k : Set) (start now : Sets) (old new : List ℕ)
   pub later : drop n new ≡ drop n old
   pub long : length new ≡ 255
 
-pub begins : (n w : ℕ) (k : Set) (before start : Sets) (old : List ℕ) → n ≤ 255 → length old ≡ 255 → start ≡ filled before w k n → Drawing n w k start start old old 0
-begins n w k before start old limit long is =
+-- a Fill that was answered can
+was_filled : (top w : ℕ) (k : Set) (n : ℕ) (before start : Sets) → true ≡ takes top w n → start ≡ after_fill top before w k n → start ≡ filled before w k n
+was_filled top w k n before start can is = is ∙ sym (chosen (takes top w n) (filled before w k n) before (sym can))
+
+pub begins : (top n w : ℕ) (k : Set) (before start : Sets) (old : List ℕ) → top ≤ 255 → length old ≡ 255 → true ≡ takes top w n → start ≡ after_fill top before w k n → Drawing n w k start start old old 0
+begins top n w k before start old low long can filled_is =
+    let is = was_filled top w k n before start can filled_is in
+    let limit : n ≤ 255 = grind (arith, nat_tests) in
     let told_here : (c : ℕ) → start w k c ≡ in_range c n = λ c. ap (λ s. s w k c) is ∙ here before w k (λ c. in_range c n) c in
     record {
       others = sym (itself start w k);
@@ -154,12 +160,43 @@ module _ {n w : ℕ} {k : Set} {start now next : Sets} {old new : List ℕ} {cou
         long = length-set new count x ∙ h.long;
       }
 
+-- where no number passes is counted, none passes
+size_nothing : (f : ℕ → Bool) (m : ℕ) → size f m ≡ 0 → (c : ℕ) → in_range c m ≡ true → f c ≡ false
+unfolding size
+size_nothing f zero z c fit = absurd (let lo : 1 ≤ c = grind (arith, nat_tests) in let hi : c ≤ 0 = grind (arith, nat_tests) in omega arith)
+size_nothing f (suc m) z c fit = elim (eqb_tells c (suc m)) [
+  | inl e ↦ ap f e.1 ∙ last (f (suc m)) (omega arith)
+  | inr e ↦ let e1 = e.1 in size_nothing f m (omega arith) c (grind (arith, nat_tests))
+]
+  where
+    last : (b : Bool) → one b ≡ 0 → b ≡ false
+    last true z = absurd (omega arith)
+    last false z = refl
+
+-- where all places are written, none is left
+pub used_up : {n w : ℕ} {k : Set} {start now : Sets} {old new : List ℕ} {count : ℕ} (top : ℕ) → top ≤ 255 → Within top now → Drawing n w k start now old new count → length new ≤ count → (c : ℕ) → now w k c ≡ false
+used_up {n} {w} {k} {start} {now} top low within h full c =
+    let s = h.sum in let l = h.limit in let long = h.long in
+    let P : Bool → Type 0 = λ b. takes top w c ≡ b → now w k c ≡ false in
+    (elim (takes top w c) as P [
+      | true ↦ λ fit. size_nothing (now w k) 255 (omega arith) c (grind (arith, nat_tests))
+      | false ↦ λ out. within w k c out
+    ]) refl
+
 module _ {n w : ℕ} {k : Set} {start now : Sets} {old new : List ℕ} {count : ℕ} (h : Drawing n w k start now old new count) (none : (c : ℕ) → now w k c ≡ false) where
   all : count ≡ n
   all = let s = h.sum in let z = size_none (now w k) 255 none in omega arith
 
-  pub each : (c : ℕ) → times c (take n new) ≡ one (in_range c n)
+  each : (c : ℕ) → times c (take n new) ≡ one (in_range c n)
   each c = let o = h.once c in let z : one (now w k c) ≡ 0 = ap one (none c) in ap (λ m. times c (take m new)) (sym all) ∙ (omega arith)
 
-  pub emptied : (before : Sets) → start ≡ filled before w k n → now ≡ cleared before w k
-  emptied before is = h.others ∙ ap (with_set start w k) (fun_ext none) ∙ ap (λ s. with_set s w k (λ _. false)) is ∙ twice before w k (λ c. in_range c n) (λ _. false)
+  pub drained : Drained true n old new
+  drained = (each, h.later)
+
+  pub emptied : (top : ℕ) (before : Sets) → true ≡ takes top w n → start ≡ after_fill top before w k n → now ≡ after_drain top before w k n
+  emptied top before can is =
+      h.others
+      ∙ ap (with_set start w k) (fun_ext none)
+      ∙ ap (λ s. with_set s w k (λ _. false)) (was_filled top w k n before start can is)
+      ∙ twice before w k (λ c. in_range c n) (λ _. false)
+      ∙ chosen (takes top w n) (cleared before w k) before (sym can)

@@ -22,25 +22,25 @@ module _ (top : ℕ) (ls : Lines) (w : ℕ) (k : Set) where
             | false ↦ λ s. refl
           ]) refl
 
-  pub told_clear : members top (after_clear_lines ls w k) ≡ cleared (members top ls) w k
-  told_clear = replaced [] (λ _. false) (λ c. grind (arith, nat_tests))
+  pub told_clear : {ls' : Lines} → ls' ≡ after_clear_lines ls w k → members top ls' ≡ cleared (members top ls) w k
+  told_clear is = ap (members top) is ∙ replaced [] (λ _. false) (λ c. grind (arith, nat_tests))
 
-  pub told_strike : (x : ℕ) → members top (after_strike_lines ls w k x) ≡ struck (members top ls) w k x
-  told_strike x = replaced _ _ (λ c. ap (λ b. takes top w c && b) (in_without (ls w k) x c) ∙ (grind (arith, nat_tests)))
+  pub told_strike : (x : ℕ) {ls' : Lines} → ls' ≡ after_strike_lines ls w k x → members top ls' ≡ struck (members top ls) w k x
+  told_strike x is = ap (members top) is ∙ replaced _ _ (λ c. ap (λ b. takes top w c && b) (in_without (ls w k) x c) ∙ (grind (arith, nat_tests)))
 
   module _ (joins : Joining) (adds : (l : List ℕ) (x c : ℕ) → in_line c (joins l x) ≡ (eqb c x || in_line c l)) where
-    pub told_put : (x : ℕ) → members top (after_put_lines joins top ls w k x) ≡ after_put top (members top ls) w k x
-    told_put x =
+    pub told_put : (x : ℕ) {ls' : Lines} → ls' ≡ after_put_lines joins top ls w k x → members top ls' ≡ after_put top (members top ls) w k x
+    told_put x is =
         let P : Bool → Type 0 = λ b. takes top w x ≡ b → members top (cond b (with_line ls w k (joined joins (ls w k) x)) ls) ≡ cond b (added (members top ls) w k x) (members top ls) in
-        (elim (takes top w x) as P [
+        ap (members top) is ∙ (elim (takes top w x) as P [
           | true ↦ λ t. replaced _ _ (λ c. ap (λ b. takes top w c && b) (in_joined joins adds (ls w k) x c) ∙ (grind (arith, nat_tests)))
           | false ↦ λ t. refl
         ]) refl
 
-    pub told_fill : (n : ℕ) → members top (after_fill_lines joins top ls w k n) ≡ after_fill top (members top ls) w k n
-    told_fill n =
+    pub told_fill : (n : ℕ) {ls' : Lines} → ls' ≡ after_fill_lines joins top ls w k n → members top ls' ≡ after_fill top (members top ls) w k n
+    told_fill n is =
         let P : Bool → Type 0 = λ b. takes top w n ≡ b → members top (cond b (with_line ls w k (counted joins n)) ls) ≡ cond b (filled (members top ls) w k n) (members top ls) in
-        (elim (takes top w n) as P [
+        ap (members top) is ∙ (elim (takes top w n) as P [
           | true ↦ λ t. replaced _ _ (λ c. ap (λ b. takes top w c && b) (in_counted joins adds n c) ∙ (grind (arith, nat_tests)))
           | false ↦ λ t. refl
         ]) refl
@@ -65,5 +65,5 @@ module _ (top : ℕ) (ls : Lines) (w : ℕ) (k : Set) where
         )
     told_take (Some x) ls' h = (
       sym (told_has x) ∙ first_in x (ls w k) h.0,
-      ap (members top) (h.1 ∙ ap (with_line ls w k) (sym (first_left top x (ls w k) stands h.0))) ∙ told_strike x,
+      told_strike x (h.1 ∙ ap (with_line ls w k) (sym (first_left top x (ls w k) stands h.0))),
     )

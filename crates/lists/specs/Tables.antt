@@ -14,6 +14,10 @@ place w k = 3 * (w - 1) + set_no k
 abbrev pub row : ℕ → Set → Option ℕ
 row w k = cond (is_worker w) (Some (place w k)) None
 
+-- The row of a set and a cell for it, if the set is there and its kind carries the cell.
+abbrev pub row_with : ℕ → ℕ → Set → ℕ → Option (ℕ × ℕ)
+row_with top w k c = cond (takes top w c) (Some (place w k, c)) None
+
 -- The line in row i, and none past the end.
 abbrev pub line_at : {S : Type 0} → (S → List ℕ) → List S → ℕ → List ℕ
 line_at line [] i = []

@@ -15,17 +15,18 @@ pub fn drain<L: WaitingLists>(
     n: u16,
     taken: &mut [u8; 255],
 ) -> bool
-    ensures answer { result ≡ takes L.top worker n }
-    ensures after { L.sets lists.new ≡ after_drain L.top (L.sets lists.old) worker set n }
+    ensures answer { result ≡ takes L.HIGHEST worker n }
+    ensures after { L.sets lists.new ≡ after_drain L.HIGHEST (L.sets lists.old) worker set n }
     ensures once { Drained result n taken.old taken.new }
 {
     if !lists.fill(worker, set, n) {
         return false;
     }
-    let mut count = 0;
-    while let Some(cell) = lists.take(worker, set) {
-        taken[count] = cell;
-        count += 1;
+    for place in taken.iter_mut() {
+        let Some(cell) = lists.take(worker, set) else {
+            break;
+        };
+        *place = cell;
     }
     true
 }

@@ -1,6 +1,6 @@
-use Rattle.std.proofs.Common.{◌≡◌}
+use Rattle.std.proofs.Common.{◌≡◌, ◌+◌, ◌-◌, ◌≤◌}
 use Rattle.lines.specs.Lines.{counted}
 use Rattle.lists.proofs.table.counted_to.Given as goal
 
-abbrev pub invariant-loop-below : goal.invariant-loop-below
-invariant-loop-below g l = g.S.CellSet.line l.cells ≡ counted g.S.CellSet.joins l.below
+abbrev pub invariant-loop-cell : goal.invariant-loop-cell
+invariant-loop-cell g l = (l.cell ≤ l.n + 1) × (g.S.CellSet.line l.cells ≡ counted g.S.CellSet.joins (l.cell - 1))

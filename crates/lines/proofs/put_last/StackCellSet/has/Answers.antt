@@ -4,4 +4,4 @@ use Rattle.lines.specs.Turned.{in_turned}
 use Rattle.lines.proofs.put_last.StackCellSet.has.Goals as goal
 
 pub returns : goal.returns
-returns c = c.contains.ensures ∙ sym (in_turned (order c.args.self.now.cells) c.args.cell)
+returns c = c.has.ensures ∙ sym (in_turned (order c.args.self.now.cells) c.args.cell)

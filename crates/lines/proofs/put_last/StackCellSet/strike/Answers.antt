@@ -8,7 +8,7 @@ use Rattle.lines.proofs.put_last.StackCellSet.strike.Goals as goal
 pub invariant_of-self : goal.invariant_of-self
 invariant_of-self c =
     let s = c.args.self.now in
-    record { low = ap (orderly 100) c.remove.ensures ∙ orderly_without 100 (order s.cells) c.args.cell s.low }
+    record { low = ap (orderly 100) c.strike.ensures ∙ orderly_without 100 (order s.cells) c.args.cell s.low }
 
 pub returns : goal.returns
-returns c = ap reverse c.remove.ensures ∙ without_turned (order c.args.self.now.cells) c.args.cell
+returns c = ap reverse c.strike.ensures ∙ without_turned (order c.args.self.now.cells) c.args.cell
