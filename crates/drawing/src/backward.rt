@@ -27,9 +27,10 @@ impl<K, G: Graph<K>> Graph<K> for Backward<G> {
 
     fn leads(&self, cell: u8, j: u16) -> u8 {
         let last = self.graph.arrows(cell);
-        if j == 0 || j > last {
-            return 0;
+        if (1..=last).contains(&j) {
+            self.graph.leads(cell, last - j + 1)
+        } else {
+            0
         }
-        self.graph.leads(cell, last - j + 1)
     }
 }

@@ -1,12 +1,12 @@
 //! A graph that is drawn arrow by arrow.
-ghost use Rattle.drawing.specs.Held.{Few, Held};
+ghost use Rattle.std.specs.Prelude.{length};
+ghost use Rattle.drawing.specs.Held.{Held};
 
-/// Up to 255 cells with up to 255 arrows each. Cell x has `arrows[x]` of them, and arrow j ends at `ends[256 * x + j]`.
+use arrayvec::ArrayVec;
+
+/// Up to 255 cells with up to 255 arrows each: for each cell, the row of the cells that its arrows lead to.
 #[derive(Drop)]
 pub struct Drawing {
-    pub(crate) count: u8,
-    pub(crate) arrows: [u8; 256],
-    pub(crate) ends: [u8; 65536],
-    ghost few: { Few arrows },
-    ghost held: { Held count arrows ends },
+    pub(crate) rows: ArrayVec<ArrayVec<u8, 255>, 255>,
+    ghost held: { Held (length rows.items) rows.items },
 }

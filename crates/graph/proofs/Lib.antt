@@ -1,3 +1,3 @@
-mod Fronts
-mod Reaching
+mod Marks
+mod Walking
 mod Strips

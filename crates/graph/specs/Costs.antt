@@ -1,5 +1,6 @@
 -- What a search costs: how many arrows it asks for.
-use Rattle.std.specs.Prelude.{◌≡◌, ℕ, zero, suc, ◌+◌, ◌≤◌, Bool, true, false, List, [], ◌∷◌, Ok, Err, Result}
+use Rattle.std.specs.Prelude.{◌≡◌, ℕ, zero, suc, ◌+◌, ◌≤◌, List, [], ◌∷◌, Result, IfOk}
+use Rattle.std.specs.Bool.{OnFalse}
 use Rattle.graph.specs.declared.refusal.SearchRefusal.{SearchRefusal}
 use Rattle.graph.specs.declared.outcome.Outcome.{Outcome}
 use Rattle.graph.specs.Nets.{Net, CellOf, Reached, all_arrows}
@@ -18,17 +19,11 @@ pub record ArrowsOfReached (g : Net) (Start : ℕ → Type 0) (asked : ℕ) : Ty
   pub all : (x : ℕ) → Reached g Start x → Marked strip x
   pub sum : asked ≡ sum_marked g.arrows 0 strip
 
--- what is said only where the answer is no
-abbrev pub IfNo : Bool → Type 0 → Type 0
-IfNo true P = Unit {0}
-IfNo false P = P
-
 -- the arrows asked for are no more than the graph has; if the answer is no, they are those of the cells reached, each once
 pub record Cost (g : Net) (starts : List ℕ) (outcome : Outcome) : Type 0 where
   pub most : outcome.asked ≤ all_arrows g
-  pub exact : IfNo outcome.reached (ArrowsOfReached g (Marked starts) outcome.asked)
+  pub exact : OnFalse outcome.reached (ArrowsOfReached g (Marked starts) outcome.asked)
 
 -- a search that is not refused costs no more than the arrows of the graph
 abbrev pub Linear : Net → List ℕ → Result Outcome SearchRefusal → Type 0
-Linear g starts (Ok outcome) = Cost g starts outcome
-Linear g starts (Err e) = Unit {0}
+Linear g starts result = IfOk result (Cost g starts)

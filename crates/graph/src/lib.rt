@@ -14,9 +14,10 @@ pub mod outcome;
 pub mod refusal;
 mod walk;
 
+use guard::WipeGuard;
 use outcome::Outcome;
 use refusal::SearchRefusal;
-use walk::search_and_wipe;
+use walk::walk_to;
 
 /// A number of cells and, for each cell, the cells that its arrows lead to; cells and arrows are counted from 1.
 /// `K` names the graph, so that one type can hold several.
@@ -32,6 +33,7 @@ pub trait Graph<K> {
         ensures { result ≡ (net self.now).arrows cell };
 
     /// The cell that arrow `j` of a cell leads to, 0 if there is no such arrow.
+    // No `Option`: it is a rule that an arrow that is not there leads to 0, so 0 is an answer like the others.
     fn leads(&self, cell: u8, j: u16) -> u8
         ensures { result ≡ (net self.now).leads cell j };
 
@@ -54,12 +56,13 @@ pub fn search<K, G: Graph<K>>(
     ensures answers { Answers (G.net graph.now) goal starts.now scratch.old result }
     ensures leaves { Leaves (G.net graph.now).cells scratch.old scratch.new result }
 {
-    let outcome = search_counted(graph, goal, starts, scratch)?;
-    Ok(outcome.reached)
+    search_counted(graph, goal, starts, scratch).map(|outcome| outcome.reached)
 }
 
 /// The same search, with the number of arrows that it asks for: at most as many as the graph has.
 /// Refuses as `search` does, and leaves the strips as `search` does.
+// It counts by itself: a graph can count in a `Cell` what it is asked, but no promise can say what a cell holds.
+#[tactic(auto, using(crate::proofs::Strips::wiped))]
 pub fn search_counted<K, G: Graph<K>>(
     graph: &G,
     goal: u16,
@@ -74,5 +77,11 @@ pub fn search_counted<K, G: Graph<K>>(
     if starts.len() < cells || scratch.len() < cells {
         return Err(SearchRefusal::ShortStrip);
     }
-    search_and_wipe(graph, goal, starts, &mut scratch[0..cells])
+    // Of the ways to take the first bytes, this one tells what the guard leaves of the whole strip.
+    let (marks, _) = scratch.split_at_mut(cells);
+    let guard = WipeGuard { marks };
+    if !(1..=cells).contains(&usize::from(goal)) {
+        return Err(SearchRefusal::NoCell);
+    }
+    Ok(walk_to(graph, goal as u8, starts, guard.marks))
 }

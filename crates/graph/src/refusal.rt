@@ -2,13 +2,13 @@
 ghost use Rattle.std.specs.Prelude.{◌≡◌};
 ghost use Rattle.graph.specs.Searches.{number_of};
 
-/// Why a search is refused, in the order in which the causes are tried.
-#[derive(Clone, Copy, PartialEq, Eq)]
+/// Why a search is refused, in the order in which the causes are tried; each has its number.
+#[derive(Clone, Copy, PartialEq, Eq, Debug)]
 pub enum SearchRefusal {
     /// A strip is shorter than the cells; both strips stay as they are.
-    ShortStrip,
+    ShortStrip = 17,
     /// The goal is 0 or above the cells; the scratch bytes in use are zero.
-    NoCell,
+    NoCell = 8,
 }
 
 impl SearchRefusal {
@@ -16,9 +16,6 @@ impl SearchRefusal {
     pub fn number(self) -> u8
         ensures { result ≡ number_of self }
     {
-        match self {
-            SearchRefusal::ShortStrip => 17,
-            SearchRefusal::NoCell => 8,
-        }
+        self as u8
     }
 }

@@ -6,7 +6,7 @@ use drawing::table::Drawing;
 use drawing::{Drawn, arrows_in};
 use graph::refusal::SearchRefusal;
 use graph::{Graph, search, search_counted};
-use std::io;
+use std::{fmt, io};
 
 mod shapes;
 
@@ -16,11 +16,17 @@ fn main(rt: HostRuntime) -> io::Result<()> {
     counts(&rt)
 }
 
-fn tell(rt: &HostRuntime, answer: Result<bool, SearchRefusal>) -> io::Result<()> {
-    match answer {
-        Ok(true) => print!(rt; "yes"),
-        Ok(false) => print!(rt; "no"),
-        Err(refusal) => print!(rt; "refused {}", refusal.number()),
+/// What a search answers, as it is printed.
+#[derive(Drop)]
+struct Answer(Result<bool, SearchRefusal>);
+
+impl fmt::Display for Answer {
+    fn fmt<W: fmt::Write>(&self, f: &mut fmt::Formatter<W>) -> fmt::Result {
+        match self.0 {
+            Ok(true) => write!(f, "yes"),
+            Ok(false) => write!(f, "no"),
+            Err(refusal) => write!(f, "refused {}", refusal.number()),
+        }
     }
 }
 
@@ -28,8 +34,8 @@ fn tell(rt: &HostRuntime, answer: Result<bool, SearchRefusal>) -> io::Result<()>
 fn marking(cells: &[u8]) -> [u8; 255] {
     let mut strip = [0; 255];
     for x in cells {
-        if *x >= 1 {
-            strip[usize::from(*x) - 1] = 1;
+        if let Some(i) = x.checked_sub(1) {
+            strip[usize::from(i)] = 1;
         }
     }
     strip
@@ -37,10 +43,8 @@ fn marking(cells: &[u8]) -> [u8; 255] {
 
 /// Prints whether a path leads from one of some cells to the goal.
 fn ask(rt: &HostRuntime, name: &str, graph: &Drawing, from: &[u8], goal: u16) -> io::Result<()> {
-    let mut scratch = [7; 255];
-    print!(rt; "{name}, from {from:?} to {goal}: ")?;
-    tell(rt, search(graph, goal, &marking(from), &mut scratch))?;
-    println!(rt; "")
+    let answer = Answer(search(graph, goal, &marking(from), &mut [7; 255]));
+    println!(rt; "{name}, from {from:?} to {goal}: {answer}")
 }
 
 fn answers(rt: &HostRuntime) -> io::Result<()> {
@@ -68,9 +72,9 @@ fn leave(
     starts: &[u8],
     scratch: &mut [u8],
 ) -> io::Result<()> {
-    print!(rt; "{} cells, goal {goal}, starts {starts:?}: ", graph.cells())?;
-    tell(rt, search(graph, goal, starts, scratch))?;
-    println!(rt; ", scratch {scratch:?}")
+    let cells = graph.cells();
+    let answer = Answer(search(graph, goal, starts, scratch));
+    println!(rt; "{cells} cells, goal {goal}, starts {starts:?}: {answer}, scratch {scratch:?}")
 }
 
 fn leavings(rt: &HostRuntime) -> io::Result<()> {
@@ -94,18 +98,16 @@ fn count<G: Graph<Drawn>>(
     from: u8,
     goal: u16,
 ) -> io::Result<()> {
-    let mut scratch = [7; 255];
-    print!(rt; "{name}, from {from} to {goal}: ")?;
-    match search_counted(graph, goal, &marking(&[from]), &mut scratch) {
+    match search_counted(graph, goal, &marking(&[from]), &mut [7; 255]) {
         Ok(outcome) => {
-            tell(rt, Ok(outcome.reached))?;
+            let answer = Answer(Ok(outcome.reached));
+            let asked = outcome.asked;
+            let arrows = arrows_in(graph);
             println!(rt;
-                ", {} of {} arrows asked for",
-                outcome.asked,
-                arrows_in(graph)
+                "{name}, from {from} to {goal}: {answer}, {asked} of {arrows} arrows asked for"
             )
         }
-        Err(refusal) => println!(rt; "refused {}", refusal.number()),
+        Err(refusal) => println!(rt; "{name}, from {from} to {goal}: {}", Answer(Err(refusal))),
     }
 }
 

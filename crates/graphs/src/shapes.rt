@@ -17,34 +17,28 @@ pub fn ring(cells: u8) -> Drawing {
     d
 }
 
+/// Cells with these arrows, each from the first cell of its pair to the second.
+fn drawn(cells: u8, arrows: &[(u8, u8)]) -> Drawing {
+    let mut d = Drawing::blank(cells);
+    for (from, to) in arrows {
+        d.draw(*from, *to);
+    }
+    d
+}
+
 /// 1, 2 and 3 are a chain, and 4, 5 and 6 are a ring.
 pub fn islands() -> Drawing {
-    let mut d = Drawing::blank(6);
-    d.draw(1, 2);
-    d.draw(2, 3);
-    d.draw(4, 5);
-    d.draw(5, 6);
-    d.draw(6, 4);
-    d
+    drawn(6, &[(1, 2), (2, 3), (4, 5), (5, 6), (6, 4)])
 }
 
 /// 1 leads to itself and nowhere else.
 pub fn own_tail() -> Drawing {
-    let mut d = Drawing::blank(2);
-    d.draw(1, 1);
-    d
+    drawn(2, &[(1, 1)])
 }
 
 /// 1 leads three times to 2, and 2 twice to 3; 4 stands alone.
 pub fn repeats() -> Drawing {
-    let mut d = Drawing::blank(4);
-    for _ in 0..3 {
-        d.draw(1, 2);
-    }
-    for _ in 0..2 {
-        d.draw(2, 3);
-    }
-    d
+    drawn(4, &[(1, 2), (1, 2), (1, 2), (2, 3), (2, 3)])
 }
 
 /// 1 leads to every other cell.
@@ -59,10 +53,10 @@ pub fn star(cells: u8) -> Drawing {
 /// 255 cells in a round, each with eight arrows, to the eight cells after it.
 pub fn full() -> Drawing {
     let mut d = Drawing::blank(255);
-    for x in 0..255u8 {
-        for j in 1..9u8 {
+    for x in 1..=255u8 {
+        for j in 0..8u8 {
             let to = (u16::from(x) + u16::from(j)) % 255 + 1;
-            d.draw(x + 1, to as u8);
+            d.draw(x, to as u8);
         }
     }
     d
