@@ -40,33 +40,24 @@ abbrev pub traced : ℕ → List Cell → Net
 traced n cells = places_to (λ c. c.first) n cells
 
 abbrev pub with_sources : Cell → ℕ → Cell
-with_sources c n = record { arity = c.arity; places = c.places; sources = n; putoff = c.putoff; first = c.first; round = c.round; colour = c.colour; father = c.father }
+with_sources c n = record c { sources = n }
 
 abbrev pub with_putoff : Cell → ℕ → Cell
-with_putoff c n = record { arity = c.arity; places = c.places; sources = c.sources; putoff = n; first = c.first; round = c.round; colour = c.colour; father = c.father }
+with_putoff c n = record c { putoff = n }
 
 abbrev pub with_colour : Cell → Colour → Cell
-with_colour c k = record { arity = c.arity; places = c.places; sources = c.sources; putoff = c.putoff; first = c.first; round = c.round; colour = k; father = c.father }
+with_colour c k = record c { colour = k }
 
 abbrev pub with_father : Cell → Father → Cell
-with_father c f = record { arity = c.arity; places = c.places; sources = c.sources; putoff = c.putoff; first = c.first; round = c.round; colour = c.colour; father = f }
+with_father c f = record c { father = f }
 
 -- y takes the next place
 abbrev pub with_child : Cell → ℕ → Cell
-with_child c y = record { arity = c.arity + 1; places = slice_set c.places c.arity y; sources = c.sources; putoff = c.putoff; first = c.first; round = c.round; colour = c.colour; father = c.father }
+with_child c y = record c { arity = c.arity + 1; places = slice_set c.places c.arity y }
 
 -- black, with source count 1 and these children; the places past them keep their cells
 abbrev pub made : Cell → List ℕ → Cell
-made c list = record {
-  arity = length list;
-  places = list ++ drop (length list) c.places;
-  sources = 1;
-  putoff = c.putoff;
-  first = c.first;
-  round = c.round;
-  colour = Black;
-  father = c.father;
-}
+made c list = record c { arity = length list; places = list ++ drop (length list) c.places; sources = 1; colour = Black }
 
 abbrev pub is_white : Colour → Bool
 is_white White = true

@@ -25,16 +25,16 @@ abbrev pub worker : State → ℕ → Worker
 worker s p = slice_index_or s.workers p no_worker
 
 abbrev pub with_cell : State → ℕ → Cell → State
-with_cell s x c = record { cells = slice_set s.cells x c; workers = s.workers; ncells = s.ncells; nworkers = s.nworkers; round = s.round; sets = s.sets; top = s.top }
+with_cell s x c = record s { cells = slice_set s.cells x c }
 
 abbrev pub with_worker : State → ℕ → Worker → State
-with_worker s p w = record { cells = s.cells; workers = slice_set s.workers p w; ncells = s.ncells; nworkers = s.nworkers; round = s.round; sets = s.sets; top = s.top }
+with_worker s p w = record s { workers = slice_set s.workers p w }
 
 abbrev pub with_sets : State → Sets → State
-with_sets s t = record { cells = s.cells; workers = s.workers; ncells = s.ncells; nworkers = s.nworkers; round = s.round; sets = t; top = s.top }
+with_sets s t = record s { sets = t }
 
 abbrev pub with_round : State → ℕ → State
-with_round s n = record { cells = s.cells; workers = s.workers; ncells = s.ncells; nworkers = s.nworkers; round = n; sets = s.sets; top = s.top }
+with_round s n = record s { round = n }
 
 -- a cell, a worker of the store
 abbrev pub HasCell : State → ℕ → Type 0

@@ -22,7 +22,8 @@ pub enum Father {
 pub struct Cell {
     /// How many children the cell has, 0 to 8.
     pub arity: u8,
-    /// The places for children; the children stand in the first `arity` of them.
+    /// The places for children; the children stand in the first `arity` of them. No vector: the places
+    /// past them keep their cells when a cell is created anew.
     pub places: [u8; 8],
     /// How many roots and boxes hold the cell, with those put off.
     pub sources: u16,

@@ -1,3 +1,5 @@
+use arrayvec::ArrayVec;
+
 /// Where a worker stands: idle, or at a label of a round.
 #[derive(Clone, Copy, PartialEq, Eq, Debug)]
 pub enum Label {
@@ -39,7 +41,7 @@ pub enum Label {
 }
 
 /// A worker: its roots and boxes, and where it stands in a round with what it holds there.
-#[derive(Clone, Copy)]
+#[derive(Drop)]
 pub struct Worker {
     pub label: Label,
     /// The round number when its round began.
@@ -52,14 +54,13 @@ pub struct Worker {
     pub y: u8,
     /// The number of the next copy, from 1.
     pub j: u8,
-    /// How many copies there are.
-    pub copied: u8,
-    pub copies: [u8; 8],
-    /// How many cells are stacked.
-    pub depth: u8,
-    pub stack: [u8; 256],
+    /// The children that were copied at 157.
+    pub copies: ArrayVec<u8, 8>,
+    /// The cells that are stacked, the top last.
+    pub stack: ArrayVec<u8, 255>,
     /// Which cells are roots, by their numbers.
     pub roots: [bool; 256],
-    /// What the box to each worker holds, by its number; 0 for nothing.
+    /// What the box to each worker holds, by its number; 0 for nothing. No `Option`: 0 names no cell, here
+    /// as in a place for a child.
     pub boxes: [u8; 9],
 }
