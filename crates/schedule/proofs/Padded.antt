@@ -1,6 +1,7 @@
 -- A list of children in eight places.
-use Rattle.std.proofs.Common.{◌≡◌, ℕ, zero, suc, ◌+◌, ◌<◌, ◌≤◌, ◌⊎◌, List, [], ◌∷◌, ◌++◌, length, get_or, take, replicate, sym, refl, ◌∙◌, inl, inr, ⊎_elim, arith}
-use Rattle.std.proofs.lemmas.List.{ext_get_or, length-take-le, length-append, get_or-take, take-take, take_at, take-append-le}
+use Rattle.std.proofs.Common.{◌≡◌, ℕ, zero, suc, ◌+◌, ◌-◌, ◌<◌, ◌≤◌, ◌⊎◌, min, List, [], ◌∷◌, ◌++◌, length, get_or, take, drop, replicate, sym, refl, ap, ◌∙◌, inl, inr, ⊎_elim, arith}
+use Rattle.std.proofs.lemmas.List.{ext_get_or, length-take-le, length-append, length-drop, get_or-take, get_or_append_left, get_or-append_right, drop-replicate, take-take, take_at, take-append-le}
+use Rattle.std.proofs.lemmas.Bool.{cases_lt}
 use Rattle.schedule.specs.Calls.{listed, padded}
 
 zeros : (m k : ℕ) → ◌≡◌ {A = ℕ} (get_or (replicate m 0) k 0) 0
@@ -29,10 +30,31 @@ padded_past (suc n) (x ∷ xs) (suc k) h = padded_past n xs k (⊎_elim (λ a. i
 long : (xs : List ℕ) → length (xs ++ replicate 8 0) ≡ length xs + 8
 long xs = length-append xs (replicate 8 0)
 
-pub eight : (n : ℕ) (xs items : List ℕ) → length items ≡ 8 → ((k : ℕ) → k < 8 → get_or items k 0 ≡ get_or (padded n xs) k 0) → items ≡ take 8 (padded n xs)
-eight n xs items len same =
-    ext_get_or 0 items (take 8 (padded n xs)) (len ∙ sym (length-take-le 8 (padded n xs) (omega (arith, long (listed n xs)))))
-    (λ k h. let lt : k < 8 = omega arith in same k lt ∙ sym (get_or-take 8 (padded n xs) k 0 lt))
+-- the cells that the list names, put over eight zeros
+module _ (n k : ℕ) (xs : List ℕ) (named : k ≡ min (min n (length xs)) 8) where
+  front : length (take k xs) ≡ k
+  front = length-take-le k xs (omega arith)
+
+  same : (i : ℕ) → i < 8 → get_or (take k xs ++ drop k (replicate 8 0)) i 0 ≡ get_or (padded n xs) i 0
+  same i h = ⊎_elim inside past (cases_lt i k) where
+    inside : i < k → get_or (take k xs ++ drop k (replicate 8 0)) i 0 ≡ get_or (padded n xs) i 0
+    inside lt =
+        get_or_append_left (take k xs) (drop k (replicate 8 0)) 0 i (omega (arith, front))
+        ∙ get_or-take k xs i 0 lt
+        ∙ sym (padded_at n xs i (omega arith) (omega arith))
+
+    past : k ≤ i → get_or (take k xs ++ drop k (replicate 8 0)) i 0 ≡ get_or (padded n xs) i 0
+    past le =
+        get_or-append_right (take k xs) (drop k (replicate 8 0)) k i 0 front le
+        ∙ ap (λ (l : List ℕ). get_or l (i - k) 0) (drop-replicate k 8 0)
+        ∙ zeros (8 - k) (i - k)
+        ∙ sym (padded_past n xs i (⊎_elim (λ lt. inr (omega arith)) inl (cases_lt i n)))
+
+  pub kept : take k xs ++ drop k (replicate 8 0) ≡ take 8 (padded n xs)
+  kept =
+      ext_get_or 0 _ _
+      (length-append (take k xs) (drop k (replicate 8 0)) ∙ omega (arith, front, length-drop {A = ℕ} k (replicate 8 0), length-take-le 8 (padded n xs) (omega (arith, long (listed n xs)))))
+      (λ i h. let lt : i < 8 = omega (arith, h, length-append (take k xs) (drop k (replicate 8 0)), front, length-drop {A = ℕ} k (replicate 8 0)) in same i lt ∙ sym (get_or-take 8 (padded n xs) i 0 lt))
 
 pub length-listed : (n : ℕ) (xs : List ℕ) → n ≤ 8 → length (listed n xs) ≡ n
 length-listed n xs h = length-take-le n (xs ++ replicate 8 0) (omega (arith, long xs))

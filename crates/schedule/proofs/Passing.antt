@@ -1,18 +1,16 @@
 -- The bytes of a record pass every test.
 use Rattle.std.proofs.Common.{◌≡◌, ℕ, ◌/◌, ◌%◌, ◌≤◌, Bool, true, false, eqb, List, [], ◌∷◌, ◌++◌, Some, None, Option, sym, refl, ap, ◌∙◌, subst, inl, inr, append_assoc, arith}
-use Rattle.std.proofs.lemmas.List.{length-append}
 use Rattle.std.proofs.lemmas.Bool.Decides.{nat_tests}
 use Rattle.schedule.specs.declared.call.CallRecord.{CallRecord}
 use Rattle.schedule.specs.declared.call.Children.{Children}
 use Rattle.schedule.specs.declared.fault.Fault.{Fault}
 use Rattle.schedule.specs.declared.record.Fields.{Fields}
 use Rattle.schedule.specs.Tests.{Test, Passes, FailsFirst}
-use Rattle.schedule.specs.Calls.{Writable, by_numbers, listed}
-use Rattle.schedule.specs.Format.{bit, when, own_fields, map_byte, field_bytes, list_bytes, two_bytes, record_bytes, differs}
+use Rattle.schedule.specs.Calls.{Writable, by_numbers}
+use Rattle.schedule.specs.Format.{bit, when, own_fields, map_byte, field_bytes, record_bytes, differs}
 use Rattle.schedule.specs.Reading.{Plain, gives_worker, tests}
-use Rattle.schedule.specs.Parts.{Chosen, FieldsRead, ListRead, WorkerRead}
-use Rattle.schedule.proofs.Padded.{length-listed}
-use Rattle.schedule.proofs.Fields.{fields_read}
+use Rattle.schedule.specs.Parts.{Chosen, WorkerRead}
+use Rattle.schedule.proofs.Fields.{fields_spelled}
 use Rattle.schedule.proofs.Records.{list_of_make, no_both, same_worker, fits_in, third_is, make_count}
 
 -- tests that are met do not fail
@@ -50,28 +48,8 @@ pub differs_false : (before : Option ℕ) (w : ℕ) → differs before w ≡ fal
 differs_false None w e = no_both (sym e)
 differs_false (Some v) w e = let q : v ≡ w = grind (arith, nat_tests) in ap Some q
 
-list_spelled : (b : Bool) (l : Children) (rest : List ℕ) → (b ≡ true → l.count ≤ 8) → ListRead b (when b (list_bytes l) ++ rest) l rest
-list_spelled true l rest h = record {
-  counted = λ _. refl;
-  there = omega (arith, length-append (listed l.count l.cells) rest, length-listed l.count l.cells (h refl));
-  whole = λ _. refl;
-}
-list_spelled false l rest h = record { counted = λ e. no_both e; there = omega arith; whole = λ _. refl }
-
 pub few : (r : CallRecord) → Writable r → (own_fields r.operation).list ≡ true → r.list.count ≤ 8
 few r ok has = (ok.1.0 (list_of_make r.operation ok.0 has)).1
-
-pub fields_apart : (f : Fields) (r : CallRecord) (t : List ℕ)
-    → field_bytes f r ++ t ≡ when f.cell (r.cell ∷ []) ++ (when f.second (r.second ∷ []) ++ (when f.list (list_bytes r.list) ++ (when f.steps (two_bytes r.steps) ++ t)))
-fields_apart f r t = simp append_assoc
-
--- the fields of a record are read from its bytes
-fields_spelled : (r : CallRecord) (t : List ℕ) → Writable r
-    → FieldsRead (own_fields r.operation) r.operation r.worker (field_bytes (own_fields r.operation) r ++ t) r t
-fields_spelled r t ok =
-    let f = own_fields r.operation in
-    fields_read f (field_bytes f r ++ t) _ _ _ r.cell r.second r.list (fields_apart f r t) refl
-    (list_spelled f.list r.list (when f.steps (two_bytes r.steps) ++ t) (few r ok)) r.operation r.worker r.steps t refl
 
 -- the parts of a record that is spelled out, and that its bytes pass the tests
 module _ (before : Option ℕ) (o w x y : ℕ) (l : Children) (n : ℕ) (t : List ℕ) (ok : Writable (by_numbers o w x y l n)) where
@@ -110,7 +88,7 @@ module _ (before : Option ℕ) (o w x y : ℕ) (l : Children) (n : ℕ) (t : Lis
 
   passes_spelled : Passes (tests before (record_bytes before r ++ t))
   passes_spelled =
-      let read = fields_spelled r t ok in (
+      let read = fields_spelled f r t (few r ok) in (
         chosen.plain,
         (
           omega arith,

@@ -1,21 +1,12 @@
 -- Bytes written into a strip, one row after another.
-use Rattle.std.proofs.Common.{◌≡◌, ℕ, ◌+◌, ◌<◌, ◌≤◌, List, [], ◌∷◌, ◌++◌, length, take, drop, set, sym, ap, ◌∙◌, append_assoc, add-one, arith}
-use Rattle.std.proofs.lemmas.List.{set_split, length-append, length-take-le, length-drop, take_at, drop_at, drop-drop, take-append-drop}
+use Rattle.std.proofs.Common.{◌≡◌, ℕ, ◌+◌, ◌≤◌, List, [], ◌++◌, length, take, drop, sym, ap, ◌∙◌, append_assoc, arith}
+use Rattle.std.proofs.lemmas.List.{length-append, length-take-le, take_at, drop_at, drop-drop, take-append-drop}
 use borrow.Rule.Slice.PartMut.{put_mid}
 use Rattle.schedule.specs.Strip.{put}
-
--- one byte
-pub put_one : (at b : ℕ) (old : List ℕ) → at < length old → set old at b ≡ put at (b ∷ []) old
-unfolding put
-put_one at b old h = rw (set_split old at b h, add-one)
 
 pub put_nothing : (at : ℕ) (old : List ℕ) → put at [] old ≡ old
 unfolding put
 put_nothing at old = let z : at + 0 ≡ at = omega arith in rw (z, take-append-drop)
-
-pub length-put : (at : ℕ) (bs old : List ℕ) → at + length bs ≤ length old → length (put at bs old) ≡ length old
-unfolding put
-length-put at bs old h = let a : at ≤ length old = omega arith in simp (length-append, length-take-le, length-drop) (omega arith)
 
 -- the bytes xs, and ys after them
 pub put_put : (at next : ℕ) (xs ys old : List ℕ) → next ≡ at + length xs → at + length xs + length ys ≤ length old → put next ys (put at xs old) ≡ put at (xs ++ ys) old
@@ -44,7 +35,3 @@ put_put at next xs ys old e h =
 pub put_middle : (at k : ℕ) (old ys bs : List ℕ) → ys ≡ bs → k ≡ length bs → put_mid at k old ys ≡ put at bs old
 unfolding put
 put_middle at k old ys bs e f = rw (e, f) (ap (λ z. take at old ++ (bs ++ z)) (drop-drop (length bs) at old))
-
--- one byte, and ys after it
-pub put_cons : (at next b : ℕ) (ys old : List ℕ) → next ≡ at + 1 → at + 1 + length ys ≤ length old → put next ys (put at (b ∷ []) old) ≡ put at (b ∷ ys) old
-put_cons at next b ys old e h = put_put at next (b ∷ []) ys old e h

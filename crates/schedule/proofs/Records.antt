@@ -9,7 +9,8 @@ use Rattle.schedule.specs.declared.fault.Fault.{Fault}
 use Rattle.schedule.specs.declared.fault.Fault.TheVariants.{PastEnd, WrongMap}
 use Rattle.schedule.specs.declared.record.Fields.{Fields}
 use Rattle.schedule.specs.Tests.{FailsFirst}
-use Rattle.schedule.specs.Calls.{Known, Counted, record_tests, Writable, said, record_of, by_numbers}
+use Rattle.schedule.specs.Operations.{Known}
+use Rattle.schedule.specs.Calls.{Counted, record_tests, Writable, said, record_of, by_numbers}
 use Rattle.schedule.specs.Format.{bit, when, own_fields, map_byte, field_bytes, spelled, differs}
 use Rattle.schedule.specs.Reading.{gives_worker, lead, span, size, tests, said_count, RecordRead}
 use Rattle.schedule.specs.Parts.{Chosen, FieldsRead, WorkerRead}

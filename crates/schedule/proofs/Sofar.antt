@@ -1,5 +1,5 @@
 -- What holds of a reader after some calls: the invariant of reading a whole schedule.
-use Rattle.std.proofs.Common.{◌≡◌, ℕ, ◌+◌, ◌<◌, List, [], ◌∷◌, ◌++◌, map, length, Some, None, Ok, Err, Option, Result, sym, refl, ap, ◌∙◌, subst, inl, inr, append_assoc, append-nil, arith}
+use Rattle.std.proofs.Common.{◌≡◌, ℕ, ◌+◌, List, [], ◌∷◌, ◌++◌, map, length, Some, None, Ok, Option, Result, sym, refl, ap, ◌∙◌, subst, append_assoc, append-nil, arith}
 use Rattle.std.proofs.lemmas.List.{length-append, length_push}
 use Rattle.schedule.specs.declared.call.Call.{Call}
 use Rattle.schedule.specs.declared.call.Call.TheVariants.{Create, AddChild, GetChild, Make, Protect, UnProtect, Send, Receive, Begin, Step, Run}
@@ -8,11 +8,9 @@ use Rattle.schedule.specs.declared.fault.Fault.{Fault}
 use Rattle.schedule.specs.declared.fault.Placed.{Placed}
 use Rattle.schedule.specs.Calls.{worker, record_of}
 use Rattle.schedule.specs.Format.{opening_bytes, record_bytes, records_bytes}
-use Rattle.schedule.specs.Tests.{FailsFirst}
-use Rattle.schedule.specs.Reading.{tests, Written}
-use Rattle.schedule.specs.Progress.{Progress, Sized, Opens, Begun, opening_or_fault, Goes, AdvancesFrom, Advances, Onward}
-use Rattle.schedule.specs.Whole.{AllWritten, last_worker, ReadSoFar, FaultAt}
-use Rattle.schedule.proofs.Advance.{opened, less}
+use Rattle.schedule.specs.Reading.{Written}
+use Rattle.schedule.specs.Progress.{Progress, Sized, Goes, AdvancesFrom, Advances, Onward}
+use Rattle.schedule.specs.Whole.{AllWritten, last_worker, ReadSoFar}
 
 pub record At (bs : List ℕ) (o : Opening) (p : Progress) (cs : List Call) : Type 0 where
   pub sized : Sized bs
@@ -28,27 +26,6 @@ gone p q o r e h = let P : Option Opening → Type 0 = λ x. AdvancesFrom x p q 
 
 six : (o : Opening) (rest : List ℕ) → length (opening_bytes o ++ rest) ≡ 6 + length rest
 six o rest = omega (arith, length-append (opening_bytes o) rest)
-
--- no record is read yet
-pub at_start : (bs : List ℕ) (o : Opening) (p : Progress) → Begun bs p → Ok o ≡ opening_or_fault p.opening → At bs o p []
-at_start bs o p b e =
-    let P : Option Opening → Type 0 = λ x. Opens bs x p.rest in
-    let h = subst P (opened p.opening o e) b.opens in
-    record {
-      sized = h.0;
-      opens = opened p.opening o e;
-      read = record { bytes = h.1; written = tt };
-      latest = b.first;
-      many = b.none;
-      place = omega (arith, b.sixth, ap length h.1, six o p.rest);
-    }
-
--- a schedule of the wrong length
-pub wrong_length : (bs : List ℕ) (p : Progress) (e : Placed Fault) → Begun bs p → Err e ≡ opening_or_fault p.opening → FaultAt bs e
-wrong_length bs p e b h = by_opening p.opening p.rest b.opens h where
-  by_opening : (x : Option Opening) (rest : List ℕ) → Opens bs x rest → Err e ≡ opening_or_fault x → FaultAt bs e
-  by_opening (Some o) rest k h = let z : ◌≡◌ {A = ℕ} 0 1 = cc in absurd (omega arith)
-  by_opening None rest k h = inl (k, cc)
 
 all_push : (cs : List Call) (c : Call) → AllWritten cs → Written c → AllWritten (cs ++ c ∷ [])
 all_push [] c a g = (g, tt)
@@ -101,38 +78,3 @@ at_next bs o p q cs c a h =
       many = on.one_more ∙ ap (λ n. n + 1) a.many ∙ sym (length_push cs c);
       place = on.further ∙ a.place;
     }
-
--- nothing is left
-pub at_end : (bs : List ℕ) (o : Opening) (p q : Progress) (cs : List Call) → At bs o p cs → Advances p q (Ok None) → Sized bs × ReadSoFar bs o cs []
-at_end bs o p q cs a h =
-    let done = gone p q o (Ok None) a.opens h in
-    let P : List ℕ → Type 0 = λ l. ReadSoFar bs o cs l in
-    (a.sized, subst P done.0 a.read)
-
--- a record is refused
-pub at_fault : (bs : List ℕ) (o : Opening) (p q : Progress) (cs : List Call) (e : Placed Fault) → At bs o p cs → Advances p q (Err e) → FaultAt bs e
-at_fault bs o p q cs e a h =
-    let stop = gone p q o (Err e) a.opens h in
-    let P : Option ℕ → Type 0 = λ b. FailsFirst (tests b p.rest) e.fault in
-    inr (
-      a.sized,
-      (
-        o,
-        cs,
-        p.rest,
-        record {
-          read = a.read;
-          more = stop.more;
-          why = subst P a.latest stop.why;
-          number = stop.number ∙ ap (λ n. n + 1) a.many;
-          place = ap (λ n. n + length p.rest) stop.place ∙ a.place;
-        },
-      ),
-    )
-
--- a call that was read leaves fewer bytes to read
-pub falls : (p q : Progress) (c : Call) → Advances p q (Ok (Some c)) → length q.rest < length p.rest
-falls p q c h = by_opening p.opening h where
-  by_opening : (x : Option Opening) → AdvancesFrom x p q (Ok (Some c)) → length q.rest < length p.rest
-  by_opening (Some o) on = omega (arith, less p.before p.rest c q.rest on.read)
-  by_opening None e = let k = e.0 in let z : ◌≡◌ {A = ℕ} 0 1 = cc in absurd (omega arith)

@@ -4,12 +4,14 @@ use Rattle.std.proofs.lemmas.List.{take_at, drop_at}
 use Rattle.schedule.specs.declared.call.CallRecord.{CallRecord}
 use Rattle.schedule.specs.declared.call.Children.{Children}
 use Rattle.schedule.specs.declared.record.Fields.{Fields}
-use Rattle.schedule.specs.Calls.{Known, Writable, said, by_numbers, tidy, listed}
+use Rattle.schedule.specs.Operations.{Known}
+use Rattle.schedule.specs.Calls.{Writable, said, by_numbers, tidy, listed}
 use Rattle.schedule.specs.Format.{when, own_fields, field_bytes, list_bytes, two_bytes, record_bytes, differs}
 use Rattle.schedule.specs.Reading.{gives_worker}
 use Rattle.schedule.proofs.Padded.{length-listed}
 use Rattle.schedule.proofs.Records.{by_operation, no_both}
-use Rattle.schedule.proofs.Passing.{gives_back, differs_false, few, fields_apart}
+use Rattle.schedule.proofs.Fields.{fields_apart}
+use Rattle.schedule.proofs.Passing.{gives_back, differs_false, few}
 
 -- peeling one field off two equal rows of bytes
 peel_byte : (b : Bool) (x y : ℕ) (p q : List ℕ) → when b (x ∷ []) ++ p ≡ when b (y ∷ []) ++ q → (b ≡ true → x ≡ y) × (p ≡ q)

@@ -1,25 +1,29 @@
 -- The eleven calls and the records that say them by numbers. Assumes nothing.
-use Rattle.std.specs.Prelude.{◌≡◌, ℕ, ◌≤◌, List, [], ◌∷◌, ◌++◌, take, replicate, Some, None, Option, slice_index_or}
+use Rattle.std.specs.Prelude.{◌≡◌, ℕ, ◌≤◌, List, [], ◌∷◌, ◌++◌, take, replicate, Some, None, Ok, Err, Option, Result, slice_index_or}
+use Rattle.schedule.specs.declared.fault.Fault.{Fault}
 use Rattle.schedule.specs.declared.fault.Fault.TheVariants.{UnknownOperation, ListCount}
 use Rattle.schedule.specs.declared.call.Call.{Call}
 use Rattle.schedule.specs.declared.call.Call.TheVariants.{Create, AddChild, GetChild, Make, Protect, UnProtect, Send, Receive, Begin, Step, Run}
 use Rattle.schedule.specs.declared.call.CallRecord.{CallRecord}
 use Rattle.schedule.specs.declared.call.Children.{Children}
-use Rattle.schedule.specs.Tests.{Test, test, Passes}
+use Rattle.schedule.specs.declared.operation.Operation.{Operation}
+use Rattle.schedule.specs.declared.operation.Operation.TheVariants as Op
+use Rattle.schedule.specs.Operations.{Known}
+use Rattle.schedule.specs.Tests.{Test, test, Passes, FailsFirst}
 
--- the number of a call's operation
-abbrev pub operation : Call → ℕ
-operation (Create w x) = 1
-operation (AddChild w x y) = 2
-operation (GetChild w x j) = 3
-operation (Make w x l) = 4
-operation (Protect w x) = 5
-operation (UnProtect w x) = 6
-operation (Send w x r) = 7
-operation (Receive w r) = 8
-operation (Begin w) = 9
-operation (Step w) = 10
-operation (Run w n) = 11
+-- the operation of a call
+abbrev pub operation : Call → Operation
+operation (Create w x) = Op.Create
+operation (AddChild w x y) = Op.AddChild
+operation (GetChild w x j) = Op.GetChild
+operation (Make w x l) = Op.Make
+operation (Protect w x) = Op.Protect
+operation (UnProtect w x) = Op.UnProtect
+operation (Send w x r) = Op.Send
+operation (Receive w r) = Op.Receive
+operation (Begin w) = Op.Begin
+operation (Step w) = Op.Step
+operation (Run w n) = Op.Run
 
 -- the worker that makes the call
 abbrev pub worker : Call → ℕ
@@ -92,10 +96,6 @@ said r =
     r.operation
     None
 
--- one of the eleven operations
-abbrev pub Known : ℕ → Type 0
-Known o = (1 ≤ o) × (o ≤ 11)
-
 -- a list of one to eight cells
 abbrev pub Counted : Children → Type 0
 Counted l = (1 ≤ l.count) × (l.count ≤ 8)
@@ -107,3 +107,8 @@ record_tests r = test UnknownOperation (Known r.operation) ∷ test ListCount (r
 -- a record that can be written
 abbrev pub Writable : CallRecord → Type 0
 Writable r = Passes (record_tests r)
+
+-- the call that a record says, or the fault of the first test that it does not pass
+abbrev pub Says : CallRecord → Result Call Fault → Type 0
+Says r (Ok c) = Writable r × (said r ≡ Some c)
+Says r (Err f) = FailsFirst (record_tests r) f

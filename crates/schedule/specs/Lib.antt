@@ -1,5 +1,6 @@
 pub mod Faults
 pub mod Tests
+pub mod Operations
 pub mod Calls
 pub mod Format
 pub mod Reading

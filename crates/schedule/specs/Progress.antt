@@ -5,7 +5,6 @@ use Rattle.schedule.specs.declared.call.Opening.{Opening}
 use Rattle.schedule.specs.declared.fault.Fault.{Fault}
 use Rattle.schedule.specs.declared.fault.Fault.TheVariants.{Length}
 use Rattle.schedule.specs.declared.fault.Placed.{Placed}
-use Rattle.schedule.specs.declared.reader.Reader.{Reader}
 use Rattle.schedule.specs.Calls.{worker}
 use Rattle.schedule.specs.Format.{opening_bytes}
 use Rattle.schedule.specs.Tests.{FailsFirst}
@@ -19,9 +18,6 @@ pub record Progress : Type 0 where
   pub before : Option ℕ
   pub records : ℕ
   pub place : ℕ
-
-abbrev pub progress : Reader → Progress
-progress r = record { opening = r.opening; rest = r.rest.now; before = r.before; records = r.records; place = r.place }
 
 -- a fault with its place
 abbrev pub placed : Fault → ℕ → ℕ → Placed Fault

@@ -4,7 +4,8 @@ use Rattle.schedule.specs.declared.fault.Fault.TheVariants.{PastEnd, UnknownOper
 use Rattle.schedule.specs.declared.record.Fields.{Fields}
 use Rattle.schedule.specs.Tests.{Test, test}
 use Rattle.schedule.specs.declared.call.Call.{Call}
-use Rattle.schedule.specs.Calls.{Known, Writable, record_of, said}
+use Rattle.schedule.specs.Operations.{Known}
+use Rattle.schedule.specs.Calls.{Writable, record_of, said}
 use Rattle.schedule.specs.Format.{bit, own_fields, map_byte, record_bytes}
 
 -- the operation's bit stands, and the two top bits do not

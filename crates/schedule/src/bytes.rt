@@ -1,13 +1,14 @@
-ghost use Rattle.std.specs.Prelude.{◌≡◌, ◌+◌, ◌*◌, ◌<◌, [], ◌∷◌, ◌++◌, length, MatchResult};
-ghost use Rattle.schedule.specs.Format.{bit, when, two_bytes};
-ghost use Rattle.schedule.specs.Parts.{ListRead, list_span};
+//! Fields, taken from the front of a row of bytes.
+ghost use Rattle.std.specs.Prelude.{◌≡◌, ◌<◌, [], ◌∷◌, ◌++◌, length, Ok, MatchBool, MatchResult};
+ghost use Rattle.schedule.specs.Format.{two_bytes};
+ghost use Rattle.schedule.specs.Parts.{Takes, ListRead, list_span};
 
 use crate::call::Children;
 use crate::fault::Fault;
 
 /// The first byte, and what follows it.
 pub(crate) fn byte(bytes: &[u8]) -> Result<(u8, &[u8]), Fault>
-    ensures { MatchResult result (λ p. bytes.now ≡ p.0 ∷ p.1.now) (λ f. (f ≡ Fault.PastEnd) × (length bytes.now ≡ 0)) }
+    ensures { Takes bytes.now 1 (λ b rest. bytes.now ≡ b ∷ rest) result }
 {
     match bytes {
         [first, rest @ ..] => Ok((*first, rest)),
@@ -15,35 +16,41 @@ pub(crate) fn byte(bytes: &[u8]) -> Result<(u8, &[u8]), Fault>
     }
 }
 
-/// The byte of a field if it is wanted, else 0 and nothing read.
-pub(crate) fn byte_if(wanted: bool, bytes: &[u8]) -> Result<(u8, &[u8]), Fault>
-    ensures { MatchResult result (λ p. bytes.now ≡ when wanted (p.0 ∷ []) ++ p.1.now) (λ f. (f ≡ Fault.PastEnd) × (length bytes.now < bit wanted)) }
-{
-    if wanted { byte(bytes) } else { Ok((0, bytes)) }
-}
-
-/// A number of two bytes, high first, if it is wanted, else 0 and nothing read.
-pub(crate) fn number_if(wanted: bool, bytes: &[u8]) -> Result<(u16, &[u8]), Fault>
-    ensures { MatchResult result (λ p. bytes.now ≡ when wanted (two_bytes p.0) ++ p.1.now) (λ f. (f ≡ Fault.PastEnd) × (length bytes.now < 2 * bit wanted)) }
+/// A number of two bytes, high first, and what follows it.
+pub(crate) fn number(bytes: &[u8]) -> Result<(u16, &[u8]), Fault>
+    ensures { Takes bytes.now 2 (λ n rest. bytes.now ≡ two_bytes n ++ rest) result }
 {
     match bytes {
-        _ if !wanted => Ok((0, bytes)),
-        [high, low, rest @ ..] => Ok((u16::from(*high) * 256 + u16::from(*low), rest)),
+        [high, low, rest @ ..] => Ok((u16::from_be_bytes([*high, *low]), rest)),
         _ => Err(Fault::PastEnd),
     }
 }
 
-/// A count and as many cells, if they are wanted, else no list and nothing read. Of more than eight
-/// cells only the first eight are kept.
-pub(crate) fn list_if(wanted: bool, bytes: &[u8]) -> Result<(Children, &[u8]), Fault>
-    ensures { MatchResult result (λ p. ListRead wanted bytes.now p.0 p.1.now) (λ f. (f ≡ Fault.PastEnd) × (length bytes.now < list_span wanted bytes.now)) }
+/// A count and as many cells, and what follows them. Of more than eight cells only the first eight
+/// are kept.
+pub(crate) fn list(bytes: &[u8]) -> Result<(Children, &[u8]), Fault>
+    ensures { Takes bytes.now (list_span bytes.now) (ListRead bytes.now) result }
 {
-    match bytes {
-        _ if !wanted => Ok((Children::NONE, bytes)),
-        [count, cells @ ..] if usize::from(*count) <= cells.len() => {
-            let rest = &cells[usize::from(*count)..];
-            Ok((Children::of(*count, cells), rest))
-        }
-        _ => Err(Fault::PastEnd),
+    let (count, rest) = byte(bytes)?;
+    let (cells, rest) = rest
+        .split_at_checked(usize::from(count))
+        .ok_or(Fault::PastEnd)?;
+    Ok((Children::of(count, cells), rest))
+}
+
+/// The field that `read` takes from the front if it is wanted, else `none` and nothing is read.
+pub(crate) fn field_if<'a, T: Drop, R: FnOnce(&'a [u8]) -> Result<(T, &'a [u8]), Fault> + Drop>(
+    wanted: bool,
+    none: T,
+    bytes: &'a [u8],
+    read: R,
+) -> Result<(T, &'a [u8]), Fault>
+    requires { R.pre read bytes }
+    ensures { MatchBool wanted (R.post read bytes.entry result) (result ≡ Ok (none, bytes.entry)) }
+{
+    if wanted {
+        read(bytes)
+    } else {
+        Ok((none, bytes))
     }
 }

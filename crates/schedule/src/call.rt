@@ -1,8 +1,8 @@
-ghost use Rattle.std.specs.Prelude.{◌≡◌, min, take, Some, MatchResult, slice_index};
-ghost use Rattle.schedule.specs.Calls.{operation as operation_of, worker as worker_of, record_of, said, record_tests, Writable, padded, children};
-ghost use Rattle.schedule.specs.Tests.{FailsFirst};
+ghost use Rattle.std.specs.Prelude.{◌≡◌, min, take};
+ghost use Rattle.schedule.specs.Calls.{operation as operation_of, worker as worker_of, record_of, children, Says};
 
 use crate::fault::Fault;
+use crate::operation::Operation;
 
 /// The three numbers that a schedule opens a store with.
 #[derive(Clone, Copy, PartialEq, Eq, Debug)]
@@ -13,7 +13,8 @@ pub struct Opening {
 }
 
 /// A list of children: the first `count` of the places in `cells`. The count may say more than the
-/// eight that a list can have, or none, and is then refused.
+/// eight that a list can have, or none, and is then refused. No slice or vector of eight: a call is
+/// plain data, to be copied and kept without its bytes, and a wrong count has to be sayable.
 #[derive(Clone, Copy, PartialEq, Eq, Debug)]
 pub struct Children {
     pub count: u8,
@@ -76,23 +77,13 @@ pub enum Call {
 /// are not looked at.
 #[derive(Clone, Copy, PartialEq, Eq, Debug)]
 pub struct CallRecord {
+    /// A number and no `Operation`, since one that is none of the eleven has to be sayable.
     pub operation: u8,
     pub worker: u8,
     pub cell: u8,
     pub second: u8,
     pub list: Children,
     pub steps: u16,
-}
-
-/// What stands in place `i` of a list of the first `count` of `cells`: 0 past its end.
-fn place_of(count: u8, cells: &[u8], i: usize) -> u8
-    ensures { result ≡ slice_index (padded count cells.now) i }
-{
-    if i < usize::from(count) && i < cells.len() {
-        cells[i]
-    } else {
-        0
-    }
 }
 
 impl Children {
@@ -106,10 +97,9 @@ impl Children {
     pub fn of(count: u8, cells: &[u8]) -> Children
         ensures { result ≡ children count cells.now }
     {
+        let named = usize::from(count).min(cells.len()).min(8);
         let mut places = [0; 8];
-        for (i, place) in places.iter_mut().enumerate() {
-            *place = place_of(count, cells, i);
-        }
+        places[..named].copy_from_slice(&cells[..named]);
         Children {
             count,
             cells: places,
@@ -125,22 +115,22 @@ impl Children {
 }
 
 impl Call {
-    /// The number of the operation, 1 to 11.
-    pub fn operation(&self) -> u8
+    /// What the call does.
+    pub fn operation(&self) -> Operation
         ensures { result ≡ operation_of self.now }
     {
         match self {
-            Call::Create { .. } => 1,
-            Call::AddChild { .. } => 2,
-            Call::GetChild { .. } => 3,
-            Call::Make { .. } => 4,
-            Call::Protect { .. } => 5,
-            Call::UnProtect { .. } => 6,
-            Call::Send { .. } => 7,
-            Call::Receive { .. } => 8,
-            Call::Begin { .. } => 9,
-            Call::Step { .. } => 10,
-            Call::Run { .. } => 11,
+            Call::Create { .. } => Operation::Create,
+            Call::AddChild { .. } => Operation::AddChild,
+            Call::GetChild { .. } => Operation::GetChild,
+            Call::Make { .. } => Operation::Make,
+            Call::Protect { .. } => Operation::Protect,
+            Call::UnProtect { .. } => Operation::UnProtect,
+            Call::Send { .. } => Operation::Send,
+            Call::Receive { .. } => Operation::Receive,
+            Call::Begin { .. } => Operation::Begin,
+            Call::Step { .. } => Operation::Step,
+            Call::Run { .. } => Operation::Run,
         }
     }
 
@@ -162,21 +152,22 @@ impl Call {
             | Call::Run { worker, .. } => *worker,
         }
     }
+}
 
-    /// The call by numbers, as it is written; the fields that it does not have are 0.
-    pub fn record(&self) -> CallRecord
-        ensures { result ≡ record_of self.now }
-    {
-        let (operation, worker) = (self.operation(), self.worker());
+/// The call by numbers, as it is written; the fields that it does not have are 0.
+impl From<Call> for CallRecord {
+    ghost from_gives = { λ c r. r ≡ record_of c };
+
+    fn from(call: Call) -> CallRecord {
         let none = CallRecord {
-            operation,
-            worker,
+            operation: call.operation().number(),
+            worker: call.worker(),
             cell: 0,
             second: 0,
             list: Children::NONE,
             steps: 0,
         };
-        match *self {
+        match call {
             Call::Create { cell, .. } | Call::Protect { cell, .. } | Call::UnProtect { cell, .. } =>
                 CallRecord { cell, ..none },
             Call::AddChild {
@@ -206,53 +197,54 @@ impl Call {
     }
 }
 
-impl CallRecord {
-    /// The call that the record says. Refuses an operation that is none of the eleven (22), then a
-    /// list of no cell or of more than eight (24).
-    pub fn call(&self) -> Result<Call, Fault>
-        ensures { MatchResult result (λ c. Writable self.now × (said self.now ≡ Some c)) (λ f. FailsFirst (record_tests self.now) f) }
-    {
+/// The call that a record says. Refuses an operation that is none of the eleven (22), then a list of
+/// no cell or of more than eight (24).
+impl TryFrom<CallRecord> for Call {
+    type Error = Fault;
+
+    ghost try_from_gives = { Says };
+
+    fn try_from(record: CallRecord) -> Result<Call, Fault> {
         let CallRecord {
+            operation,
             worker,
             cell,
             second,
             list,
             steps,
-            ..
-        } = *self;
-        match self.operation {
-            1 => Ok(Call::Create { worker, cell }),
-            2 => Ok(Call::AddChild {
+        } = record;
+        match Operation::try_from(operation)? {
+            Operation::Create => Ok(Call::Create { worker, cell }),
+            Operation::AddChild => Ok(Call::AddChild {
                 worker,
                 cell,
                 child: second,
             }),
-            3 => Ok(Call::GetChild {
+            Operation::GetChild => Ok(Call::GetChild {
                 worker,
                 cell,
                 place: second,
             }),
-            4 if list.count == 0 || list.count > 8 => Err(Fault::ListCount),
-            4 => Ok(Call::Make {
+            Operation::Make if list.count == 0 || list.count > 8 => Err(Fault::ListCount),
+            Operation::Make => Ok(Call::Make {
                 worker,
                 cell,
                 list: Children::of(list.count, &list.cells),
             }),
-            5 => Ok(Call::Protect { worker, cell }),
-            6 => Ok(Call::UnProtect { worker, cell }),
-            7 => Ok(Call::Send {
+            Operation::Protect => Ok(Call::Protect { worker, cell }),
+            Operation::UnProtect => Ok(Call::UnProtect { worker, cell }),
+            Operation::Send => Ok(Call::Send {
                 worker,
                 cell,
                 to: second,
             }),
-            8 => Ok(Call::Receive {
+            Operation::Receive => Ok(Call::Receive {
                 worker,
                 from: second,
             }),
-            9 => Ok(Call::Begin { worker }),
-            10 => Ok(Call::Step { worker }),
-            11 => Ok(Call::Run { worker, steps }),
-            _ => Err(Fault::UnknownOperation),
+            Operation::Begin => Ok(Call::Begin { worker }),
+            Operation::Step => Ok(Call::Step { worker }),
+            Operation::Run => Ok(Call::Run { worker, steps }),
         }
     }
 }

@@ -7,8 +7,9 @@
 mod bytes;
 pub mod call;
 pub mod fault;
+pub mod operation;
 pub mod reader;
 mod record;
-mod strip;
+mod spell;
 pub mod whole;
 pub mod write;

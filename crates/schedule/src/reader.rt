@@ -1,13 +1,16 @@
 ghost use Rattle.std.specs.Prelude.{◌+◌, ◌*◌, ◌≤◌, length};
+ghost use Rattle.schedule.specs.Progress.{Progress};
 
 use crate::call::Opening;
+use std::marker::Model;
 
 mod calls;
 
 /// Reads a schedule: its opening numbers, and then its calls one by one.
 #[derive(Drop)]
 pub struct Reader<'a> {
-    /// None where the schedule has too few or too many bytes, and nothing of it is read.
+    /// None where the schedule has too few or too many bytes, and nothing of it is read: a reader can be
+    /// had of any bytes, so this is no `Result` of a reader.
     opening: Option<Opening>,
     /// The bytes that are still to be read.
     rest: &'a [u8],
@@ -17,6 +20,13 @@ pub struct Reader<'a> {
     records: u16,
     /// The place of the next record's map byte.
     place: u16,
-    ghost within: { place + length rest.now ≤ 4096 },
-    ghost few: { 2 * records + 6 ≤ place },
+}
+
+// A contract sees how far reading has come.
+impl<'a> Model for Reader<'a> {
+    ghost Value = { Progress };
+
+    ghost view = { λ r. record { opening = r.opening; rest = r.rest.now; before = r.before; records = r.records; place = r.place } };
+
+    ghost invariant = { λ r. (r.place + length r.rest.now ≤ 4096) × (2 * r.records + 6 ≤ r.place) };
 }

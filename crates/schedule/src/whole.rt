@@ -7,6 +7,7 @@ use crate::call::{Call, Opening};
 use crate::fault::{Fault, Placed};
 use crate::reader::Reader;
 use std::alloc::{AllocFailed, Global};
+use thiserror::Error;
 
 /// A whole schedule.
 #[derive(Drop)]
@@ -16,14 +17,17 @@ pub struct Schedule {
 }
 
 /// Why a whole schedule was not read.
-#[derive(Drop, Debug)]
+#[derive(Drop, Debug, Error)]
 pub enum ReadError {
     /// The schedule has a fault.
+    #[error("{0}")]
     Faulty(Placed<Fault>),
     /// There was no memory for the calls.
+    #[error("no memory for the calls")]
     Memory,
 }
 
+// By hand and not by `#[from]`, whose `from` promises nothing: `Reads` has to know the case.
 impl From<Placed<Fault>> for ReadError {
     ghost from_gives = { λ p r. r ≡ Faulty p };
 
@@ -49,6 +53,8 @@ pub fn read(heap: Global, bytes: &[u8]) -> Result<Schedule, ReadError>
     read_calls(heap, bytes)
 }
 
+// Apart from `read`, whose two further promises follow from this one: as one function, each of its
+// four ends would prove all three.
 fn read_calls(heap: Global, bytes: &[u8]) -> Result<Schedule, ReadError>
     ensures { Reads bytes.now result }
 {

@@ -1,110 +1,23 @@
-ghost use Rattle.std.specs.Prelude.{◌≡◌, ◌+◌, ◌*◌, ◌<◌, ◌≤◌, min, true, length, if◌then◌else◌, None, MatchResult};
-ghost use Rattle.schedule.specs.Calls.{Writable};
-ghost use Rattle.schedule.specs.Format.{bit, when, list_bytes, two_bytes, field_bytes, differs, record_bytes, records_bytes};
+ghost use Rattle.std.specs.Prelude.{◌≡◌, ◌+◌, ◌≤◌, min, length, None, MatchResult};
+ghost use Rattle.schedule.specs.Format.{records_bytes};
 ghost use Rattle.schedule.specs.Strip.{put};
 ghost use Rattle.schedule.specs.Tests.{FailsFirst};
 ghost use Rattle.schedule.specs.Whole.{AllWritable};
 ghost use Rattle.schedule.specs.Writing.{records_tests, Writes, WrittenReadsBack};
 
-use crate::call::{CallRecord, Children, Opening};
+use crate::call::{Call, CallRecord, Opening};
 use crate::fault::Fault;
-use crate::record::Fields;
-use crate::strip::{put_all, put_byte, put_if};
+use crate::spell::spell;
 
-/// Whether a record's worker has to be given.
-fn worker_differs(before: Option<u8>, worker: u8) -> bool
-    ensures { result ≡ differs before worker }
+/// Writes a row of bytes at a place, and answers the place after it.
+fn put_all(strip: &mut [u8], at: usize, bytes: &[u8]) -> usize
+    requires { at + length bytes.now ≤ length strip.old }
+    ensures next { result ≡ at + length bytes.now }
+    ensures after { strip.new ≡ put at bytes.now strip.old }
 {
-    match before {
-        Some(last) => last != worker,
-        None => true,
-    }
-}
-
-/// A list: its count and its cells.
-fn put_list(strip: &mut [u8], at: usize, list: &Children) -> usize
-    requires { (list.now.count ≤ 8) × (at + length (list_bytes list.now) ≤ length strip.old) }
-    ensures next { result ≡ at + length (list_bytes list.now) }
-    ensures after { strip.new ≡ put at (list_bytes list.now) strip.old }
-{
-    let at = put_byte(strip, at, list.count);
-    put_all(strip, at, &list.cells[0..usize::from(list.count)])
-}
-
-/// A list if it is wanted.
-fn put_list_if(strip: &mut [u8], at: usize, wanted: bool, list: &Children) -> usize
-    requires { (wanted ≡ true → list.now.count ≤ 8) × (at + length (when wanted (list_bytes list.now)) ≤ length strip.old) }
-    ensures next { result ≡ at + length (when wanted (list_bytes list.now)) }
-    ensures after { strip.new ≡ put at (when wanted (list_bytes list.now)) strip.old }
-{
-    if wanted {
-        put_list(strip, at, list)
-    } else {
-        at
-    }
-}
-
-/// A number of two bytes, high first, if it is wanted.
-fn put_number_if(strip: &mut [u8], at: usize, wanted: bool, number: u16) -> usize
-    requires { at + 2 * bit wanted ≤ length strip.old }
-    ensures next { result ≡ at + 2 * bit wanted }
-    ensures after { strip.new ≡ put at (when wanted (two_bytes number)) strip.old }
-{
-    if wanted {
-        put_all(strip, at, &[(number / 256) as u8, (number % 256) as u8])
-    } else {
-        at
-    }
-}
-
-/// The fields that follow the worker.
-fn put_fields(strip: &mut [u8], at: usize, fields: Fields, record: &CallRecord) -> usize
-    requires { (fields.list ≡ true → «record».now.list.count ≤ 8) × (at + length (field_bytes fields «record».now) ≤ length strip.old) }
-    ensures next { result ≡ at + length (field_bytes fields «record».now) }
-    ensures after { strip.new ≡ put at (field_bytes fields «record».now) strip.old }
-{
-    let at = put_if(strip, at, fields.cell, record.cell);
-    let at = put_if(strip, at, fields.second, record.second);
-    let at = put_list_if(strip, at, fields.list, &record.list);
-    put_number_if(strip, at, fields.steps, record.steps)
-}
-
-/// The record of a call, after a record of the worker `before`.
-fn put_record(strip: &mut [u8], at: usize, before: Option<u8>, record: &CallRecord) -> usize
-    requires { (Writable «record».now) × (at + length (record_bytes before «record».now) ≤ length strip.old) }
-    ensures next { result ≡ at + length (record_bytes before «record».now) }
-    ensures after { strip.new ≡ put at (record_bytes before «record».now) strip.old }
-{
-    let fields = Fields::of(record.operation);
-    let given = worker_differs(before, record.worker);
-    let at = put_all(strip, at, &[fields.map(given), record.operation]);
-    let at = put_if(strip, at, given, record.worker);
-    put_fields(strip, at, fields, record)
-}
-
-/// How many bytes a list takes, if it is wanted.
-fn list_size(wanted: bool, list: &Children) -> usize
-    ensures { result ≡ (if wanted then 1 + list.now.count else 0) }
-{
-    if wanted {
-        1 + usize::from(list.count)
-    } else {
-        0
-    }
-}
-
-/// How many bytes a record takes, after a record of the worker `before`.
-fn record_size(before: Option<u8>, record: &CallRecord) -> usize
-    ensures { (Writable «record».now → result ≡ length (record_bytes before «record».now)) × (result ≤ 263) }
-{
-    let fields = Fields::of(record.operation);
-    let given = worker_differs(before, record.worker);
-    let list = list_size(fields.list, &record.list);
-    2 + usize::from(given)
-        + usize::from(fields.cell)
-        + usize::from(fields.second)
-        + list
-        + 2 * usize::from(fields.steps)
+    let end = at + bytes.len();
+    strip[at..end].copy_from_slice(bytes);
+    end
 }
 
 /// Tests each record in order, and answers the length of their schedule, or 4,097 where it is longer.
@@ -114,8 +27,8 @@ fn measure(records: &[CallRecord]) -> Result<usize, Fault>
     let mut total = 6;
     let mut before = None;
     for record in records {
-        record.call()?;
-        total = (total + record_size(before, record)).min(4097);
+        Call::try_from(*record)?;
+        total = (total + spell(before, record).len()).min(4097);
         before = Some(record.worker);
     }
     Ok(total)
@@ -130,13 +43,13 @@ fn put_records(strip: &mut [u8], at: usize, records: &[CallRecord]) -> usize
     let mut place = at;
     let mut before = None;
     for record in records {
-        place = put_record(strip, place, before, record);
+        place = put_all(strip, place, spell(before, record).as_slice());
         before = Some(record.worker);
     }
     place
 }
 
-/// Tests, and then writes.
+/// Tests, and then writes. Apart from `write`, whose second promise follows from this one.
 fn write_schedule(
     opening: Opening,
     records: &[CallRecord],

@@ -11,17 +11,16 @@ const OPENING: Opening = Opening {
 };
 
 fn step() -> CallRecord {
-    Call::Step { worker: 1 }.record()
+    CallRecord::from(Call::Step { worker: 1 })
 }
 
 fn make(count: u8) -> CallRecord {
     let list = Children::of(count, b"\x01\x02\x01\x02\x01\x02\x01\x02");
-    Call::Make {
+    CallRecord::from(Call::Make {
         worker: 1,
         cell: 3,
         list,
-    }
-    .record()
+    })
 }
 
 /// A call whose operation is none of the eleven.

@@ -3,14 +3,16 @@
 //! It names files as arguments, `-` for standard input; without arguments it reads standard input.
 #![tactic(auto)]
 
+use schedule::call::Opening;
 use schedule::fault::{Fault, Placed};
 use schedule::reader::Reader;
 use std::io::Read;
 use std::{env, fs, io};
+use thiserror::Error;
 
 mod words;
 
-use words::{call_line, reason};
+use words::Line;
 
 /// All bytes of a file, or of standard input where its name is `-`.
 fn read_bytes(rt: &HostRuntime, name: &str) -> io::Result<Vec<u8>> {
@@ -22,51 +24,43 @@ fn read_bytes(rt: &HostRuntime, name: &str) -> io::Result<Vec<u8>> {
     Ok(bytes)
 }
 
-fn show_fault(rt: &HostRuntime, placed: Placed<Fault>) -> io::Result<()> {
-    let number = placed.fault.number();
-    let why = reason(placed.fault);
-    let record = placed.record;
-    let byte = placed.byte;
-    println!(rt; "fault {number} record {record} byte {byte}: {why}")
+/// Why no further record of a schedule is shown.
+#[derive(Debug, Drop, Error)]
+enum Stop {
+    #[error("{0}")]
+    Faulty(#[from] Placed<Fault>),
+    #[error(transparent)]
+    Output(#[from] io::Error),
 }
 
-/// The calls, one a line.
-fn show_calls(rt: &HostRuntime, reader: &mut Reader<'_>) -> anyhow::Result<Option<Placed<Fault>>> {
-    loop {
-        let place = reader.place();
-        match reader.next_call() {
-            Ok(next) => {
-                let Some(call) = next else {
-                    return Ok(None);
-                };
-                rt.println(call_line(rt.alloc(), reader.records(), place, &call)?)?;
-            }
-            Err(placed) => return Ok(Some(placed)),
-        }
-    }
-}
-
-fn show_schedule(rt: &HostRuntime, bytes: &[u8]) -> anyhow::Result<()> {
+/// The opening numbers, and then the calls, one a line.
+fn show_records(rt: &HostRuntime, bytes: &[u8]) -> Result<(), Stop> {
     let mut reader = Reader::new(bytes);
-    match reader.opening() {
-        Ok(opening) => {
-            let cells = opening.cells;
-            let workers = opening.workers;
-            let first_round = opening.first_round;
-            println!(rt; "cells {cells}, workers {workers}, first round {first_round}")?;
-        }
-        Err(placed) => {
-            show_fault(rt, placed)?;
+    let Opening {
+        cells,
+        workers,
+        first_round,
+    } = reader.opening()?;
+    println!(rt; "cells {cells}, workers {workers}, first round {first_round}")?;
+    loop {
+        let byte = reader.place();
+        let Some(call) = reader.next_call()? else {
             return Ok(());
-        }
+        };
+        let record = reader.records();
+        rt.println(Line { record, byte, call })?;
     }
-    if let Some(placed) = show_calls(rt, &mut reader)? {
-        show_fault(rt, placed)?;
-    }
-    Ok(())
 }
 
-fn show_file(rt: &HostRuntime, name: &str) -> anyhow::Result<()> {
+fn show_schedule(rt: &HostRuntime, bytes: &[u8]) -> io::Result<()> {
+    match show_records(rt, bytes) {
+        Err(Stop::Faulty(placed)) => println!(rt; "{placed}: {}", placed.fault),
+        Err(Stop::Output(error)) => Err(error),
+        Ok(()) => Ok(()),
+    }
+}
+
+fn show_file(rt: &HostRuntime, name: &str) -> io::Result<()> {
     let bytes = read_bytes(rt, name)?;
     show_schedule(rt, bytes.as_slice())
 }

@@ -2,60 +2,32 @@
 //! which fault; what is read is written again and compared.
 #![tactic(auto)]
 
-ghost use Rattle.std.specs.Prelude.{◌<◌, IfSome};
-
 use anyhow::anyhow;
+use hex::FromHex;
 use schedule::call::CallRecord;
-use schedule::fault::{Fault, Placed};
 use schedule::whole::{ReadError, Schedule, read};
 use schedule::write::write;
 use std::alloc::{AllocError, Global};
-use std::io;
 
-/// The value of a hex digit.
-fn digit(c: u8) -> Option<u8>
-    ensures { IfSome result (λ d. d < 16) }
-{
-    match c {
-        b'0'..=b'9' => Some(c - b'0'),
-        b'a'..=b'f' => Some(c - b'a' + 10),
-        b'A'..=b'F' => Some(c - b'A' + 10),
-        _ => None,
+/// The bytes of hex words, two digits a byte.
+fn bytes_of(heap: Global, text: &str) -> anyhow::Result<Vec<u8>> {
+    let mut bytes = Vec::new(heap);
+    for word in text.split(' ') {
+        let [byte] = <[u8; 1]>::from_hex(word)?;
+        bytes.push(byte)?;
     }
-}
-
-/// The byte of two hex digits.
-fn hex_byte(word: &str) -> Option<u8> {
-    match word.as_bytes() {
-        [high, low] => Some(digit(*high)? * 16 + digit(*low)?),
-        _ => None,
-    }
-}
-
-/// The records of the calls, to be written again.
-fn records_of(heap: Global, schedule: &Schedule) -> Result<Vec<CallRecord>, AllocError> {
-    let mut records = Vec::new(heap);
-    for call in schedule.calls.iter() {
-        records.push(call.record())?;
-    }
-    Ok(records)
+    Ok(bytes)
 }
 
 /// Whether the schedule, written again, has the bytes that it was read from.
 fn writes_back(heap: Global, schedule: &Schedule, bytes: &[u8]) -> Result<bool, AllocError> {
-    let records = records_of(heap, schedule)?;
+    let calls = schedule.calls.iter().copied();
+    let records: Vec<CallRecord> = calls.map(CallRecord::from).collect(heap)?;
     let mut strip = vec![in heap; 0; 4096]?;
     match write(schedule.opening, records.as_slice(), strip.as_mut_slice()) {
-        Ok(n) if n <= 4096 => Ok(&strip.as_slice()[0..n] == bytes),
-        _ => Ok(false),
+        Ok(length) => Ok(strip.as_slice().get(..length) == Some(bytes)),
+        Err(_) => Ok(false),
     }
-}
-
-fn report_fault(rt: &HostRuntime, name: &str, placed: Placed<Fault>) -> io::Result<()> {
-    let number = placed.fault.number();
-    let record = placed.record;
-    let byte = placed.byte;
-    println!(rt; "{name} fault {number} record {record} byte {byte}")
 }
 
 fn report(rt: &HostRuntime, name: &str, bytes: &[u8]) -> anyhow::Result<()> {
@@ -69,8 +41,8 @@ fn report(rt: &HostRuntime, name: &str, bytes: &[u8]) -> anyhow::Result<()> {
             };
             println!(rt; "{name} {calls} calls, written back {same}")?;
         }
-        Err(ReadError::Faulty(placed)) => report_fault(rt, name, placed)?,
-        Err(ReadError::Memory) => return Err(anyhow!("no memory")),
+        Err(ReadError::Faulty(placed)) => println!(rt; "{name} {placed}")?,
+        Err(ReadError::Memory) => return Err(anyhow!(ReadError::Memory)),
     }
     Ok(())
 }
@@ -79,13 +51,7 @@ fn report_line(rt: &HostRuntime, line: &str) -> anyhow::Result<()> {
     let Some((name, text)) = line.split_once(' ') else {
         return Err(anyhow!("a line has a name and hex bytes"));
     };
-    let mut bytes = Vec::new(rt.alloc());
-    for word in text.split(' ') {
-        match hex_byte(word) {
-            Some(byte) => bytes.push(byte)?,
-            None => return Err(anyhow!("not a hex byte")),
-        }
-    }
+    let bytes = bytes_of(rt.alloc(), text)?;
     report(rt, name, bytes.as_slice())
 }
 

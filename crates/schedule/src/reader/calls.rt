@@ -1,10 +1,10 @@
 ghost use Rattle.std.specs.Prelude.{◌≡◌, Some, None, MatchOption};
-ghost use Rattle.schedule.specs.Progress.{progress, Sized, Opens, Begun, opening_or_fault, Advances};
+ghost use Rattle.schedule.specs.Progress.{Sized, Opens, Begun, opening_or_fault, Advances};
 
 use crate::call::{Call, Opening};
 use crate::fault::{Fault, Placed};
 use crate::reader::Reader;
-use crate::record::read_record;
+use crate::record::Lead;
 
 /// The opening numbers and the bytes of the records, where the schedule's length is right.
 fn read_opening(bytes: &[u8]) -> Option<(Opening, &[u8])>
@@ -29,44 +29,36 @@ fn read_opening(bytes: &[u8]) -> Option<(Opening, &[u8])>
 impl<'a> Reader<'a> {
     /// A reader at the start of a schedule.
     pub fn new(bytes: &'a [u8]) -> Reader<'a>
-        ensures { Begun bytes.now (progress result) }
+        ensures { Begun bytes.now result }
     {
-        match read_opening(bytes) {
-            Some((opening, rest)) => Reader {
-                opening: Some(opening),
-                rest,
-                before: None,
-                records: 0,
-                place: 6,
-            },
-            None => Reader {
-                opening: None,
-                rest: &[],
-                before: None,
-                records: 0,
-                place: 6,
-            },
+        let (opening, rest): (Option<Opening>, &[u8]) = match read_opening(bytes) {
+            Some((opening, rest)) => (Some(opening), rest),
+            None => (None, &[]),
+        };
+        Reader {
+            opening,
+            rest,
+            before: None,
+            records: 0,
+            place: 6,
         }
     }
 
     /// The three numbers that the schedule opens a store with. Refuses a schedule of under 6 or over
     /// 4,096 bytes (20), of which no call is read either.
     pub fn opening(&self) -> Result<Opening, Placed<Fault>>
-        ensures { result ≡ opening_or_fault (progress self.now).opening }
+        ensures { result ≡ opening_or_fault self.now.opening }
     {
-        match self.opening {
-            Some(opening) => Ok(opening),
-            None => Err(Placed {
-                fault: Fault::Length,
-                record: 0,
-                byte: 0,
-            }),
-        }
+        self.opening.ok_or(Placed {
+            fault: Fault::Length,
+            record: 0,
+            byte: 0,
+        })
     }
 
     /// How many records were read.
     pub fn records(&self) -> u16
-        ensures { result ≡ (progress self.now).records }
+        ensures { result ≡ self.now.records }
     {
         let Reader { records, .. } = self;
         *records
@@ -74,7 +66,7 @@ impl<'a> Reader<'a> {
 
     /// The place of the next record's map byte in the schedule, from 0.
     pub fn place(&self) -> u16
-        ensures { result ≡ (progress self.now).place }
+        ensures { result ≡ self.now.place }
     {
         let Reader { place, .. } = self;
         *place
@@ -83,13 +75,17 @@ impl<'a> Reader<'a> {
     /// The next call, or none at the schedule's end. A record that cannot be read gives its fault
     /// with its place; the reader then stays where it is.
     pub fn next_call(&mut self) -> Result<Option<Call>, Placed<Fault>>
-        ensures { Advances (progress self.old) (progress self.new) result }
+        ensures { Advances self.old self.new result }
     {
         self.opening()?;
         let [map, after @ ..] = self.rest else {
             return Ok(None);
         };
-        match read_record(*map, after, self.before) {
+        let lead = Lead {
+            map: *map,
+            before: self.before,
+        };
+        match lead.call(after) {
             Ok((call, rest)) => {
                 self.place += (self.rest.len() - rest.len()) as u16;
                 self.rest = rest;

@@ -30,9 +30,6 @@ returns-then-strip-length c =
       refl,
     )
 
-pub put_all-at-requires : goal.put_all-at-requires
-put_all-at-requires c = omega (arith, c.in_ok-length.ensures.1)
-
 pub returns : goal.returns
 returns c =
     let o = c.args.opening in
