@@ -2,7 +2,7 @@
 //! It keeps by a ghost field that every arrow ends at a cell, and so it is a graph.
 #![tactic(auto)]
 
-ghost use Rattle.std.specs.Prelude.{◌≡◌, ◌≤◌, length};
+ghost use Rattle.std.specs.Prelude.{◌≡◌, ◌+◌, ◌≤◌, length, MatchOption};
 ghost use Rattle.graph.specs.Nets.{all_arrows};
 ghost use Rattle.drawing.specs.Held.{row_of};
 ghost use Rattle.drawing.specs.Drawn.{net_of, Blank, Draws};
@@ -33,24 +33,32 @@ impl Drawing {
     }
 
     /// Draws one more arrow, the last one of `from`; answers no and draws none if an end is no cell or `from` has 255 arrows.
+    // A `bool`: yes or no, as a set's `insert` answers.
     pub fn draw(&mut self, from: u8, to: u8) -> bool
         ensures { Draws from to self.old self.new result }
     {
         if !(1..=self.rows.len()).contains(&usize::from(to)) {
             return false;
         }
-        match self.rows.get_mut(usize::from(from).wrapping_sub(1)) {
+        let i = match place(u16::from(from)) {
+            Some(i) => i,
+            None => return false,
+        };
+        match self.rows.get_mut(i) {
             Some(row) => row.try_push(to).is_ok(),
             None => false,
         }
     }
 
-    /// Where the arrows of a cell lead, one after the other. A 0 wraps round to a place that no row has.
+    /// Where the arrows of a cell lead, one after the other; nowhere for what is no cell.
     fn row(&self, cell: u8) -> &[u8]
         ensures row { result.now ≡ row_of self.now.rows.items cell }
         ensures short { length result.now ≤ 255 }
     {
-        match self.rows.get(usize::from(cell).wrapping_sub(1)) {
+        let Some(i) = place(u16::from(cell)) else {
+            return &[];
+        };
+        match self.rows.get(i) {
             Some(row) => row.as_slice(),
             None => &[],
         }
@@ -73,9 +81,18 @@ impl Graph<Drawn> for Drawing {
     }
 
     fn leads(&self, cell: u8, j: u16) -> u8 {
-        let i = usize::from(j).wrapping_sub(1);
-        self.row(cell).get(i).copied().unwrap_or(0)
+        match place(j) {
+            Some(i) => self.row(cell).get(i).copied().unwrap_or(0),
+            None => 0,
+        }
     }
+}
+
+/// The place of what has this number, counted from 1; none for 0.
+fn place(number: u16) -> Option<usize>
+    ensures { MatchOption result (number ≡ 0) (λ i. i + 1 ≡ number) }
+{
+    usize::from(number).checked_sub(1)
 }
 
 /// The number of arrows of a graph.

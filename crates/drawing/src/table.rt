@@ -1,4 +1,4 @@
-//! A graph that is drawn arrow by arrow.
+//! The rows of a drawing.
 ghost use Rattle.std.specs.Prelude.{length};
 ghost use Rattle.drawing.specs.Held.{Held};
 

@@ -10,6 +10,7 @@ use arrayvec::ArrayVec;
 pub(crate) struct Found<'a> {
     marks: &'a mut [u8],
     cells: ArrayVec<u8, 255>,
+    /// How many cells had their turn. No iterator: cells are added while it goes on.
     turn: usize,
     ghost small: { length marks.now ≤ 255 },
     ghost lists: { Lists marks.now cells.items },

@@ -47,6 +47,7 @@ pub trait Graph<K> {
 ///
 /// Refuses with `ShortStrip` if a strip is shorter than the cells, and both strips stay as they are. After that check,
 /// the scratch bytes in use are zero at every end. Refuses with `NoCell` if the goal is no cell of the graph.
+// Four parameters: a type that holds them would be made for one call.
 pub fn search<K, G: Graph<K>>(
     graph: &G,
     goal: u16,
@@ -80,8 +81,13 @@ pub fn search_counted<K, G: Graph<K>>(
     // Of the ways to take the first bytes, this one tells what the guard leaves of the whole strip.
     let (marks, _) = scratch.split_at_mut(cells);
     let guard = WipeGuard { marks };
-    if !(1..=cells).contains(&usize::from(goal)) {
-        return Err(SearchRefusal::NoCell);
+    match u8::try_from(goal) {
+        Ok(goal) if (1..=cells).contains(&usize::from(goal)) => Ok(walk_to(
+            graph,
+            goal,
+            starts,
+            guard.marks,
+        )),
+        _ => Err(SearchRefusal::NoCell),
     }
-    Ok(walk_to(graph, goal as u8, starts, guard.marks))
 }

@@ -12,7 +12,7 @@ pub enum SearchRefusal {
 }
 
 impl SearchRefusal {
-    /// The number of the refusal.
+    /// The number of the refusal. No `From`: `refusal.number()` says what the number is.
     pub fn number(self) -> u8
         ensures { result ≡ number_of self }
     {

@@ -41,7 +41,7 @@ pub fn repeats() -> Drawing {
     drawn(4, &[(1, 2), (1, 2), (1, 2), (2, 3), (2, 3)])
 }
 
-/// 1 leads to every other cell.
+/// 1 leads to every other cell. Apart from `chain`: both in one would take a closure for one number.
 pub fn star(cells: u8) -> Drawing {
     let mut d = Drawing::blank(cells);
     for x in 1..cells {

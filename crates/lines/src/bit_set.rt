@@ -4,6 +4,7 @@ ghost use Rattle.std.specs.Prelude.{◌≡◌, false, length};
 ghost use Rattle.lines.specs.Bits.{held, HeldNone, HeldToo, HeldBut, Lowest};
 
 /// A set of the numbers 1 to 255.
+// No `impl Model`: see `Order`.
 #[derive(Clone, Copy)]
 pub struct BitSet {
     words: [u64; 4],

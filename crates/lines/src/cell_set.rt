@@ -5,11 +5,12 @@ ghost use Rattle.lines.specs.Numbers.{Bounded};
 ghost use Rattle.lines.specs.Lines.{Joining, in_line, orderly, after_put_line, without, first};
 
 /// One set of cell numbers. A kind of set is told by where a newcomer joins its line.
-pub trait CellSet: Sized + Drop {
+pub trait CellSet: Sized + Clone {
     /// The highest cell number that the kind can carry.
     const HIGHEST: u8;
 
-    // The constant, as clauses name it. An impl says the number for each of the two, and the check proves them equal.
+    // The constant, as clauses name it. An impl says the number for each of the two, since a ghost member sees no other
+    // member of its impl, and the check proves them equal.
     ghost HIGHEST: { ℕ };
 
     // The members, in the order in which they will be taken.
@@ -18,7 +19,7 @@ pub trait CellSet: Sized + Drop {
     // Where a newcomer joins the line.
     ghost joins: { Joining };
 
-    /// The kind's `HIGHEST`.
+    /// The kind's `HIGHEST`. In each of the two traits, since a caller has one or the other.
     final fn highest_cell() -> u8
         ensures { result ≡ HIGHEST }
     {

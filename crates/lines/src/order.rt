@@ -9,6 +9,7 @@ ghost use Rattle.lines.specs.InLine.{at_end_adds};
 use crate::bit_set::BitSet;
 use crate::cell_set::CellSet;
 use arrayvec::ArrayVec;
+use std::alloc::AllocError;
 
 /// A set of the numbers 1 to 255 that knows the order in which they were put: the member put first is next.
 // No `impl Model`, here and at `BitSet`: a law of `CellSet` holds for every value of the type, and with a model any list would be one.
@@ -18,6 +19,21 @@ pub struct Order {
     marks: BitSet,
     ghost stands: { orderly 255 cells.items ≡ true },
     ghost marked: { (c : ℕ) → held marks.words c ≡ in_line c cells.items },
+}
+
+impl Clone for Order {
+    ghost use Rattle.lines.specs.Orders.{order};
+
+    ghost is_clone = { λ s t. order t ≡ order s };
+
+    ghost is_infallible = { λ _. Unit {0} };
+
+    fn clone(&self) -> Result<Self, AllocError> {
+        Ok(Order {
+            cells: self.cells.clone()?,
+            marks: self.marks,
+        })
+    }
 }
 
 impl CellSet for Order {

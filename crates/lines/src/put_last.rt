@@ -9,12 +9,25 @@ ghost use Rattle.lines.specs.InLine.{at_head_adds};
 
 use crate::cell_set::CellSet;
 use crate::order::Order;
+use std::alloc::AllocError;
 
 /// A set of the numbers 1 to 100 that is taken from its end.
 #[derive(Drop)]
 pub struct Stack {
     cells: Order,
     ghost low: { orderly 100 (order cells) ≡ true },
+}
+
+impl Clone for Stack {
+    ghost is_clone = { λ s t. order t.cells ≡ order s.cells };
+
+    ghost is_infallible = { λ _. Unit {0} };
+
+    fn clone(&self) -> Result<Self, AllocError> {
+        Ok(Stack {
+            cells: self.cells.clone()?,
+        })
+    }
 }
 
 impl CellSet for Stack {

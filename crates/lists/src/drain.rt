@@ -8,6 +8,7 @@ use crate::waiting::{Set, WaitingLists};
 
 /// Fills the set with 1 to `n`, and takes until none is left: `taken` then begins with the numbers 1 to `n`, each once, in the order of the Takes.
 /// The set is empty after that. Answers no, altering nothing, where Fill does.
+// The caller's table, of which the promise says what stays; a `bool`, since it answers as Fill does.
 pub fn drain<L: WaitingLists>(
     lists: &mut L,
     worker: u8,

@@ -10,12 +10,14 @@ use lines::cell_set::CellSet;
 use std::array;
 
 /// A set for each of the workers 1 to 8 and each of a worker's three sets.
+// No `impl Model`: its value would be the lines, a function of worker and set, of which the check finds no code. One table of
+// 24 and not eight of three: one number names a row.
 #[derive(Drop)]
 pub struct Table<S> {
     rows: [S; 24],
 }
 
-// The row of a set, if it is there. A number and no `&mut S`: what is written through a `&mut` handed out of an array is not proved to stay.
+// The row of a set, if it is there. A number and no `&mut S`: what is written through a `&mut` that a function hands out of an array is not proved to stay.
 fn row_of(worker: u8, set: Set) -> Option<usize>
     ensures { result ≡ row worker set }
 {

@@ -19,13 +19,14 @@ pub trait WaitingLists {
     /// The highest cell number that the kind can carry.
     const HIGHEST: u8;
 
-    // The constant, as clauses name it. An impl says the number for each of the two, and the check proves them equal.
+    // The constant, as clauses name it. An impl says the number for each of the two, since a ghost member sees no other
+    // member of its impl, and the check proves them equal.
     ghost HIGHEST: { ℕ };
 
     // The members of each set.
     ghost sets: { Self → Sets };
 
-    /// The kind's `HIGHEST`.
+    /// The kind's `HIGHEST`. In each of the two traits, since a caller has one or the other.
     final fn highest_cell() -> u8
         ensures { result ≡ HIGHEST }
     {

@@ -72,26 +72,30 @@ fn ends<L: WaitingLists>(rt: &impl Abort, lists: &mut L, highest: u8, first: u8,
     assert_eq!(rt; lists.take(8, Set::Follow), None);
 }
 
+// A kind by its highest number, the order in which it gives 7, 3 and 5, and the first and the last that a drain takes.
+fn kind<L: WaitingLists + Drop>(
+    rt: &impl Abort,
+    mut lists: L,
+    highest: u8,
+    given: [u8; 3],
+    [first, last]: [u8; 2],
+) {
+    every_set(rt, &mut lists, highest);
+    order(rt, &mut lists, given);
+    ends(rt, &mut lists, highest, first, last);
+}
+
 #[test]
 fn bit_map(rt: HostRuntime) {
-    let mut lists = BitMap::new();
-    every_set(&rt, &mut lists, 255);
-    order(&rt, &mut lists, [3, 5, 7]);
-    ends(&rt, &mut lists, 255, 1, 255);
+    kind(&rt, BitMap::new(), 255, [3, 5, 7], [1, 255]);
 }
 
 #[test]
 fn queue(rt: HostRuntime) {
-    let mut lists = Queue::new();
-    every_set(&rt, &mut lists, 255);
-    order(&rt, &mut lists, [7, 3, 5]);
-    ends(&rt, &mut lists, 255, 1, 255);
+    kind(&rt, Queue::new(), 255, [7, 3, 5], [1, 255]);
 }
 
 #[test]
 fn pile(rt: HostRuntime) {
-    let mut lists = Pile::new();
-    every_set(&rt, &mut lists, 100);
-    order(&rt, &mut lists, [5, 3, 7]);
-    ends(&rt, &mut lists, 100, 100, 1);
+    kind(&rt, Pile::new(), 100, [5, 3, 7], [100, 1]);
 }

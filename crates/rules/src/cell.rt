@@ -18,7 +18,7 @@ pub enum Father {
 }
 
 /// A cell of the netlist.
-#[derive(Clone, Copy)]
+#[derive(Clone, Copy, PartialEq, Eq, Debug)]
 pub struct Cell {
     /// How many children the cell has, 0 to 8.
     pub arity: u8,

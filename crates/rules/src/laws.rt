@@ -1,4 +1,4 @@
-//! The theorems: each is the contract of a function that does nothing, so that the gate asks for its proof.
+//! The theorems: each is the contract of a function that does nothing, so that the check asks for its proof.
 
 ghost use Rattle.rules.specs.Laws.{InEveryHistory, AtEveryMoment, NoFreeCellLive, CountsBalance, FreedAfterRises};
 ghost use Rattle.rules.specs.Limits.{CountsWithin, ChildrenWithin, StacksFit, RoundsWithin};

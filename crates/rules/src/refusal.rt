@@ -39,7 +39,7 @@ pub enum Refusal {
 }
 
 impl Refusal {
-    /// The refusal's number, 1 to 16.
+    /// The refusal's number, 1 to 16. No `From`: `refusal.number()` says what the number is.
     pub fn number(self) -> u8
         ensures { result ≡ number_of self }
     {

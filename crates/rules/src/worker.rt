@@ -41,11 +41,12 @@ pub enum Label {
 }
 
 /// A worker: its roots and boxes, and where it stands in a round with what it holds there.
-#[derive(Drop)]
+#[derive(Clone, Debug, Drop)]
 pub struct Worker {
     pub label: Label,
     /// The round number when its round began.
     pub own: u32,
+    // The registers keep what they hold from label to label, so they are no fields of the labels.
     /// The cell drawn at 101, 122 or 129.
     pub x: u8,
     /// The cell drawn at 151.

@@ -53,6 +53,12 @@ no_fault b (r ∷ rs) (c ∷ cs) rest f ok read e some why =
     (ap (λ w. records_bytes (Some w) rs) (sym h.1) ∙ h.2 ∙ ap (λ w. records_bytes (Some w) (map record_of cs) ++ rest) (worker_of_record c))
     some why
 
+same_numbers : (o p : Opening) → o.cells ≡ p.cells → o.workers ≡ p.workers → o.first_round ≡ p.first_round → o ≡ p
+same_numbers o p a b n =
+    ap (λ k. record o { cells = k }) a
+    ∙ ap (λ k. record o { cells = p.cells; workers = k }) b
+    ∙ ap (λ k. record p { first_round = k }) n
+
 -- the opening numbers that begin the same bytes
 same_opening : (o p : Opening) (t u : List ℕ) → opening_bytes o ++ t ≡ opening_bytes p ++ u → (o ≡ p) × (t ≡ u)
 same_opening o p t u e =
@@ -62,12 +68,7 @@ same_opening o p t u e =
     let d : o.first_round / 65536 % 256 ≡ p.first_round / 65536 % 256 = ap (λ (l : List ℕ). get_or l 3 0) e in
     let f : o.first_round / 256 % 256 ≡ p.first_round / 256 % 256 = ap (λ (l : List ℕ). get_or l 4 0) e in
     let g : o.first_round % 256 ≡ p.first_round % 256 = ap (λ (l : List ℕ). get_or l 5 0) e in
-    let n : o.first_round ≡ p.first_round = omega arith in (
-      ap (λ k. record { cells = k; workers = o.workers; first_round = o.first_round }) a
-          ∙ ap (λ k. record { cells = p.cells; workers = k; first_round = o.first_round }) b
-          ∙ ap (λ k. record { cells = p.cells; workers = p.workers; first_round = k }) n,
-      ap (drop 6) e,
-    )
+    (same_numbers o p a b (omega arith), ap (drop 6) e)
 
 pub reads_back : (bs : List ℕ) (r : Result Schedule ReadError) → Reads bs r → ReadsBack bs r
 reads_back bs (Ok s) h o rs sized ok e =

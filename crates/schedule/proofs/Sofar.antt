@@ -1,5 +1,5 @@
 -- What holds of a reader after some calls: the invariant of reading a whole schedule.
-use Rattle.std.proofs.Common.{◌≡◌, ℕ, ◌+◌, List, [], ◌∷◌, ◌++◌, map, length, Some, None, Ok, Option, Result, sym, refl, ap, ◌∙◌, subst, append_assoc, append-nil, arith}
+use Rattle.std.proofs.Common.{◌≡◌, ℕ, ◌+◌, List, [], ◌∷◌, ◌++◌, map, length, Some, None, Ok, Option, Result, sym, refl, ap, ◌∙◌, subst, append_assoc, append-nil, arith, Err, inr}
 use Rattle.std.proofs.lemmas.List.{length-append, length_push}
 use Rattle.schedule.specs.declared.call.Call.{Call}
 use Rattle.schedule.specs.declared.call.Call.TheVariants.{Create, AddChild, GetChild, Make, Protect, UnProtect, Send, Receive, Begin, Step, Run}
@@ -8,9 +8,10 @@ use Rattle.schedule.specs.declared.fault.Fault.{Fault}
 use Rattle.schedule.specs.declared.fault.Placed.{Placed}
 use Rattle.schedule.specs.Calls.{worker, record_of}
 use Rattle.schedule.specs.Format.{opening_bytes, record_bytes, records_bytes}
-use Rattle.schedule.specs.Reading.{Written}
+use Rattle.schedule.specs.Reading.{Written, tests}
 use Rattle.schedule.specs.Progress.{Progress, Sized, Goes, AdvancesFrom, Advances, Onward}
-use Rattle.schedule.specs.Whole.{AllWritten, last_worker, ReadSoFar}
+use Rattle.schedule.specs.Whole.{AllWritten, last_worker, ReadSoFar, FaultAt}
+use Rattle.schedule.specs.Tests.{FailsFirst}
 
 pub record At (bs : List ℕ) (o : Opening) (p : Progress) (cs : List Call) : Type 0 where
   pub sized : Sized bs
@@ -78,3 +79,31 @@ at_next bs o p q cs c a h =
       many = on.one_more ∙ ap (λ n. n + 1) a.many ∙ sym (length_push cs c);
       place = on.further ∙ a.place;
     }
+
+-- nothing is left
+pub at_end : (bs : List ℕ) (o : Opening) (p q : Progress) (cs : List Call) → At bs o p cs → Advances p q (Ok None) → Sized bs × ReadSoFar bs o cs []
+at_end bs o p q cs a h =
+    let done = gone p q o (Ok None) a.opens h in
+    let P : List ℕ → Type 0 = λ l. ReadSoFar bs o cs l in
+    (a.sized, subst P done.0 a.read)
+
+-- a record is refused
+pub at_fault : (bs : List ℕ) (o : Opening) (p q : Progress) (cs : List Call) (e : Placed Fault) → At bs o p cs → Advances p q (Err e) → FaultAt bs e
+at_fault bs o p q cs e a h =
+    let stop = gone p q o (Err e) a.opens h in
+    let P : Option ℕ → Type 0 = λ b. FailsFirst (tests b p.rest) e.fault in
+    inr (
+      a.sized,
+      (
+        o,
+        cs,
+        p.rest,
+        record {
+          read = a.read;
+          more = stop.more;
+          why = subst P a.latest stop.why;
+          number = stop.number ∙ ap (λ n. n + 1) a.many;
+          place = ap (λ n. n + length p.rest) stop.place ∙ a.place;
+        },
+      ),
+    )

@@ -21,7 +21,8 @@ pub struct Children {
     pub cells: [u8; 8],
 }
 
-/// One of the eleven calls, with its worker and its own fields.
+/// One of the eleven calls, with its worker and its own fields. The worker stands in each, so that one
+/// pattern names a call whole.
 #[derive(Clone, Copy, PartialEq, Eq, Debug)]
 pub enum Call {
     Create {

@@ -1,5 +1,6 @@
 ghost use Rattle.std.specs.Prelude.{◌≡◌, ◌+◌, ◌<◌, true, false, ◌∷◌, length, Some, None, MatchBool, MatchResult};
 ghost use Rattle.schedule.specs.Format.{bit, own_fields, map_byte};
+ghost use Rattle.schedule.specs.Operations.{number};
 ghost use Rattle.schedule.specs.Tests.{FailsFirst};
 ghost use Rattle.schedule.specs.Reading.{tests, span, gives_worker, RecordRead};
 ghost use Rattle.schedule.specs.Parts.{Takes, Chosen, FieldsRead, WorkerRead};
@@ -7,6 +8,7 @@ ghost use Rattle.schedule.specs.Parts.{Takes, Chosen, FieldsRead, WorkerRead};
 use crate::bytes::{byte, field_if, list, number};
 use crate::call::{Call, CallRecord, Children};
 use crate::fault::Fault;
+use crate::operation::Operation;
 
 /// Which fields follow a record's operation and worker.
 #[derive(Clone, Copy)]
@@ -50,18 +52,18 @@ impl Fields {
         ..Fields::NONE
     };
 
-    /// The fields of an operation. By number, as a record says it; one that is none of the eleven has
-    /// none.
-    pub(crate) fn of(operation: u8) -> Fields
-        ensures { result ≡ own_fields operation }
+    /// The fields of an operation. `Lead::fields` has the same table: it matches the map too, of bytes that
+    /// may be wrong.
+    pub(crate) fn of(operation: Operation) -> Fields
+        ensures { result ≡ own_fields (number operation) }
     {
         match operation {
-            1 | 5 | 6 => Fields::CELL,
-            2 | 3 | 7 => Fields::CELL_AND_SECOND,
-            4 => Fields::CELL_AND_LIST,
-            8 => Fields::SECOND,
-            11 => Fields::STEPS,
-            _ => Fields::NONE,
+            Operation::Create | Operation::Protect | Operation::UnProtect => Fields::CELL,
+            Operation::AddChild | Operation::GetChild | Operation::Send => Fields::CELL_AND_SECOND,
+            Operation::Make => Fields::CELL_AND_LIST,
+            Operation::Receive => Fields::SECOND,
+            Operation::Begin | Operation::Step => Fields::NONE,
+            Operation::Run => Fields::STEPS,
         }
     }
 
@@ -118,7 +120,8 @@ impl Lead {
         self.map / 2 % 2 == 1
     }
 
-    /// The fields of the record, by the operation that comes next.
+    /// The fields of the record, by the operation that comes next: its number and the map together, as
+    /// the format's table has them, of bytes that may be any.
     fn fields(self, after: &[u8]) -> Result<Fields, Fault>
         ensures { MatchResult result (λ f. Chosen self.before self.map after.now f) (λ e. FailsFirst (tests self.before (self.map ∷ after.now)) e) }
     {

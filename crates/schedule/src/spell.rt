@@ -5,6 +5,7 @@ ghost use Rattle.schedule.specs.Calls.{Writable};
 ghost use Rattle.schedule.specs.Format.{when, record_bytes};
 
 use crate::call::CallRecord;
+use crate::operation::Operation;
 use crate::record::Fields;
 use arrayvec::ArrayVec;
 
@@ -26,7 +27,8 @@ pub(crate) fn spell(before: Option<u8>, record: &CallRecord) -> Spelling
     requires { Writable «record».now }
     ensures { result.items ≡ record_bytes before «record».now }
 {
-    let fields = Fields::of(record.operation);
+    let operation = Operation::try_from(record.operation).unwrap();
+    let fields = Fields::of(operation);
     let given = before != Some(record.worker);
     let mut bytes = ArrayVec::new();
     add_if(&mut bytes, true, &[fields.map(given), record.operation]);

@@ -50,14 +50,6 @@ pub fn read(heap: Global, bytes: &[u8]) -> Result<Schedule, ReadError>
     ensures back { ReadsBack bytes.now result }
     ensures written_back { WrittenBack bytes.now result }
 {
-    read_calls(heap, bytes)
-}
-
-// Apart from `read`, whose two further promises follow from this one: as one function, each of its
-// four ends would prove all three.
-fn read_calls(heap: Global, bytes: &[u8]) -> Result<Schedule, ReadError>
-    ensures { Reads bytes.now result }
-{
     let mut reader = Reader::new(bytes);
     let opening = reader.opening()?;
     let mut calls = Vec::new(heap);

@@ -49,13 +49,12 @@ fn put_records(strip: &mut [u8], at: usize, records: &[CallRecord]) -> usize
     place
 }
 
-/// Tests, and then writes. Apart from `write`, whose second promise follows from this one.
-fn write_schedule(
-    opening: Opening,
-    records: &[CallRecord],
-    strip: &mut [u8],
-) -> Result<usize, Fault>
-    ensures { Writes opening records.now strip.old result strip.new }
+/// Writes a schedule in front of the strip, and answers its length; the bytes after it stay. Tests each
+/// record in order, its operation (22) and then the count of its list (24), then the schedule's length
+/// (20) and the strip's (19). A refusal leaves the whole strip as it was.
+pub fn write(opening: Opening, records: &[CallRecord], strip: &mut [u8]) -> Result<usize, Fault>
+    ensures writes { Writes opening records.now strip.old result strip.new }
+    ensures back { WrittenReadsBack opening records.now result strip.new }
 {
     let length = measure(records)?;
     if length > 4096 {
@@ -67,14 +66,4 @@ fn write_schedule(
     let at = put_all(strip, 0, &[opening.cells, opening.workers]);
     let at = put_all(strip, at, &opening.first_round.to_be_bytes());
     Ok(put_records(strip, at, records))
-}
-
-/// Writes a schedule in front of the strip, and answers its length; the bytes after it stay. Tests each
-/// record in order, its operation (22) and then the count of its list (24), then the schedule's length
-/// (20) and the strip's (19). A refusal leaves the whole strip as it was.
-pub fn write(opening: Opening, records: &[CallRecord], strip: &mut [u8]) -> Result<usize, Fault>
-    ensures writes { Writes opening records.now strip.old result strip.new }
-    ensures back { WrittenReadsBack opening records.now result strip.new }
-{
-    write_schedule(opening, records, strip)
 }

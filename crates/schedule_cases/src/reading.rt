@@ -4,17 +4,11 @@ use schedule::reader::Reader;
 use std::process::Abort;
 use std::test::Fail;
 
-/// The fault at which reading stops, or none. A schedule has fewer than 2,100 records.
-fn fault_of(bytes: &[u8]) -> Option<Placed<Fault>> {
+/// Reads all calls of a schedule, or stops at its first fault.
+fn read_all(bytes: &[u8]) -> Result<(), Placed<Fault>> {
     let mut reader = Reader::new(bytes);
-    for _ in 0..2100 {
-        match reader.next_call() {
-            Ok(Some(_)) => {}
-            Ok(None) => return None,
-            Err(placed) => return Some(placed),
-        }
-    }
-    None
+    while let Some(_) = reader.next_call()? {}
+    Ok(())
 }
 
 /// A schedule's bytes, and the fault's number, record and byte.
@@ -27,7 +21,7 @@ struct Case<'a> {
 
 fn check_faults(rt: &impl Abort, cases: &[Case<'_>]) -> Result<(), Fail> {
     for case in cases {
-        let placed = fault_of(case.bytes).ok_or("no fault")?;
+        let placed = read_all(case.bytes).err().ok_or("no fault")?;
         assert_eq!(rt; placed.fault.number(), case.number);
         assert_eq!(rt; placed.record, case.record);
         assert_eq!(rt; placed.byte, case.byte);

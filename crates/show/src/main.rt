@@ -66,14 +66,13 @@ fn show_file(rt: &HostRuntime, name: &str) -> io::Result<()> {
 }
 
 fn show_all(rt: &HostRuntime) -> anyhow::Result<()> {
-    let mut shown = false;
-    for name in env::args(rt)?.skip(1) {
+    let mut names = env::args(rt)?.skip(1).peekable();
+    if names.peek().is_none() {
+        show_file(rt, "-")?;
+    }
+    for name in names {
         println!(rt; "{name}")?;
         show_file(rt, name.as_str())?;
-        shown = true;
-    }
-    if !shown {
-        show_file(rt, "-")?;
     }
     Ok(())
 }

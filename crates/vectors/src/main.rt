@@ -11,12 +11,12 @@ use std::alloc::{AllocError, Global};
 
 /// The bytes of hex words, two digits a byte.
 fn bytes_of(heap: Global, text: &str) -> anyhow::Result<Vec<u8>> {
-    let mut bytes = Vec::new(heap);
-    for word in text.split(' ') {
-        let [byte] = <[u8; 1]>::from_hex(word)?;
-        bytes.push(byte)?;
-    }
-    Ok(bytes)
+    text.split(' ')
+        .map(|word| -> anyhow::Result<u8> {
+            let [byte] = <[u8; 1]>::from_hex(word).map_err(|_| anyhow!("not a hex byte"))?;
+            Ok(byte)
+        })
+        .try_collect(heap)
 }
 
 /// Whether the schedule, written again, has the bytes that it was read from.
@@ -42,7 +42,7 @@ fn report(rt: &HostRuntime, name: &str, bytes: &[u8]) -> anyhow::Result<()> {
             println!(rt; "{name} {calls} calls, written back {same}")?;
         }
         Err(ReadError::Faulty(placed)) => println!(rt; "{name} {placed}")?,
-        Err(ReadError::Memory) => return Err(anyhow!(ReadError::Memory)),
+        Err(ReadError::Memory) => return Err(anyhow!("no memory")),
     }
     Ok(())
 }

@@ -56,22 +56,6 @@ impl<'a> Reader<'a> {
         })
     }
 
-    /// How many records were read.
-    pub fn records(&self) -> u16
-        ensures { result ≡ self.now.records }
-    {
-        let Reader { records, .. } = self;
-        *records
-    }
-
-    /// The place of the next record's map byte in the schedule, from 0.
-    pub fn place(&self) -> u16
-        ensures { result ≡ self.now.place }
-    {
-        let Reader { place, .. } = self;
-        *place
-    }
-
     /// The next call, or none at the schedule's end. A record that cannot be read gives its fault
     /// with its place; the reader then stays where it is.
     pub fn next_call(&mut self) -> Result<Option<Call>, Placed<Fault>>

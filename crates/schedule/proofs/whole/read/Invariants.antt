@@ -1,6 +1,6 @@
 use Rattle.std.proofs.Common.{length, vec_items}
 use Rattle.schedule.proofs.Sofar.{At}
-use Rattle.schedule.proofs.whole.read_calls.Given as goal
+use Rattle.schedule.proofs.whole.read.Given as goal
 
 -- the calls so far, and the bytes that are left, are the schedule
 abbrev pub invariant-loop-calls : goal.invariant-loop-calls
