@@ -25,6 +25,7 @@ impl Drawing {
     pub fn blank(count: u8) -> Drawing
         ensures { Blank count result }
     {
+        // No `collect`: a vector's takes an allocator and may fail.
         let mut rows = ArrayVec::new();
         for _ in 0..count {
             rows.push(ArrayVec::new());

@@ -28,7 +28,7 @@ pub trait Graph<K> {
     fn cells(&self) -> u8
         ensures { result ≡ (net self.now).cells };
 
-    /// The number of arrows of a cell, 0 for what is no cell.
+    /// The number of arrows of a cell, 0 for what is no cell: it has no arrow.
     fn arrows(&self, cell: u8) -> u16
         ensures { result ≡ (net self.now).arrows cell };
 

@@ -21,6 +21,7 @@ pub struct Order {
     ghost marked: { (c : ℕ) → held marks.words c ≡ in_line c cells.items },
 }
 
+// By hand: a struct with a ghost field derives no `Clone` without `Copy`, and no vector is `Copy`.
 impl Clone for Order {
     ghost use Rattle.lines.specs.Orders.{order};
 

@@ -18,6 +18,7 @@ pub struct Stack {
     ghost low: { orderly 100 (order cells) ≡ true },
 }
 
+// By hand, as `Order`'s.
 impl Clone for Stack {
     ghost is_clone = { λ s t. order t.cells ≡ order s.cells };
 

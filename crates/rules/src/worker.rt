@@ -59,7 +59,7 @@ pub struct Worker {
     pub copies: ArrayVec<u8, 8>,
     /// The cells that are stacked, the top last.
     pub stack: ArrayVec<u8, 255>,
-    /// Which cells are roots, by their numbers.
+    /// Which cells are roots, by their numbers, which begin at 1 as those of the workers do.
     pub roots: [bool; 256],
     /// What the box to each worker holds, by its number; 0 for nothing. No `Option`: 0 names no cell, here
     /// as in a place for a child.

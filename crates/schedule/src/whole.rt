@@ -36,6 +36,7 @@ impl From<Placed<Fault>> for ReadError {
     }
 }
 
+// By hand: `Memory` holds nothing, so no `#[from]` can stand at it.
 impl<T: Drop> From<AllocFailed<T>> for ReadError {
     ghost from_gives = { λ _ r. r ≡ Memory };
 

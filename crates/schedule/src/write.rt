@@ -20,7 +20,8 @@ fn put_all(strip: &mut [u8], at: usize, bytes: &[u8]) -> usize
     end
 }
 
-/// Tests each record in order, and answers the length of their schedule, or 4,097 where it is longer.
+/// Tests each record in order, and answers the length of their schedule, or 4,097 where it is longer: a
+/// later record's fault comes before that of the length, and so no sum wraps.
 fn measure(records: &[CallRecord]) -> Result<usize, Fault>
     ensures { MatchResult result (λ n. AllWritable records.now × (n ≡ min 4097 (6 + length (records_bytes None records.now)))) (λ f. FailsFirst (records_tests records.now) f) }
 {
@@ -34,7 +35,8 @@ fn measure(records: &[CallRecord]) -> Result<usize, Fault>
     Ok(total)
 }
 
-/// The records, one after another.
+/// The records, one after another. The walk of `measure` again: no byte is written before every record
+/// is tested.
 fn put_records(strip: &mut [u8], at: usize, records: &[CallRecord]) -> usize
     requires { (AllWritable records.now) × (at + length (records_bytes None records.now) ≤ length strip.old) }
     ensures next { result ≡ at + length (records_bytes None records.now) }

@@ -11,7 +11,8 @@ fn read_all(bytes: &[u8]) -> Result<(), Placed<Fault>> {
     Ok(())
 }
 
-/// A schedule's bytes, and the fault's number, record and byte.
+/// A schedule's bytes, and the fault's number, record and byte. By number, so that the cases test the
+/// numbers too.
 struct Case<'a> {
     bytes: &'a [u8],
     number: u8,

@@ -42,6 +42,7 @@ fn report(rt: &HostRuntime, name: &str, bytes: &[u8]) -> anyhow::Result<()> {
             println!(rt; "{name} {calls} calls, written back {same}")?;
         }
         Err(ReadError::Faulty(placed)) => println!(rt; "{name} {placed}")?,
+        // The program's own words.
         Err(ReadError::Memory) => return Err(anyhow!("no memory")),
     }
     Ok(())
