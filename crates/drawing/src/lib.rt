@@ -38,12 +38,9 @@ impl Drawing {
     pub fn draw(&mut self, from: u8, to: u8) -> bool
         ensures { Draws from to self.old self.new result }
     {
-        if !(1..=self.rows.len()).contains(&usize::from(to)) {
+        let ends = (1..=self.rows.len()).contains(&usize::from(to));
+        let (true, Some(i)) = (ends, place(u16::from(from))) else {
             return false;
-        }
-        let i = match place(u16::from(from)) {
-            Some(i) => i,
-            None => return false,
         };
         match self.rows.get_mut(i) {
             Some(row) => row.try_push(to).is_ok(),
