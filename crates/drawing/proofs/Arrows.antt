@@ -1,44 +1,84 @@
--- A drawing with an arrow more is a drawing.
-use Rattle.std.proofs.Common.{◌≡◌, ℕ, zero, suc, ◌+◌, ◌-◌, ◌<◌, ◌≤◌, Bool, ◌++◌, ◌∷◌, [], List, length, get_or, set, Ok, Err, Result, sym, refl, ap, ◌∙◌, subst, arith}
-use Rattle.std.specs.Prelude.{◌↔◌}
-use Rattle.std.specs.List.{All}
-use Rattle.std.specs.Result.{IsOk, OnOk, OnErr, is_ok}
-use Rattle.std.proofs.lemmas.List.{get_or_read, length-set, set-get_or}
-use Rattle.std.proofs.lemmas.List.Elements.{All-push, All-set}
-use Rattle.arrayvec.specs.ArrayVec.{ArrayVec}
+-- A blank drawing and one with an arrow more are drawings.
+use Rattle.std.proofs.Common.{◌≡◌, ℕ, zero, suc, ◌+◌, ◌-◌, ◌*◌, ◌<◌, ◌≤◌, true, ◌≢◌, List, length, get_or, set, replicate, sym, refl, ap, ◌∙◌, subst, inl, inr, arith}
+use Rattle.std.proofs.lemmas.List.{get_or-set_same, get_or-set_other}
+use Rattle.std.proofs.lemmas.Bool.{cases_eq}
+use Rattle.std.proofs.lemmas.Bool.Decides.{nat_tests}
 use Rattle.graph.specs.Nets.{Within, sum_after}
-use Rattle.drawing.specs.Held.{no_arrows, row_of, Held}
-use Rattle.drawing.specs.Drawn.{DrawsIn}
+use Rattle.drawing.specs.Held.{end_of, Few, Held}
+use Rattle.drawing.specs.Tests.{within}
 
--- row is the row of the cell after i, and r tells whether y was pushed to it
-module _ (rows : List (ArrayVec ℕ)) (i y : ℕ) (row new : ArrayVec ℕ) {E : Type 0} (r : Result Unit E) (at : i < length rows) (is : row ≡ get_or rows i row) (to : Within (length rows) y) where
-  here : row ≡ get_or rows i no_arrows
-  here = get_or_read rows i row at is no_arrows
+-- what the test says
+pub yes_within : (n x : ℕ) → within n x ≡ true → Within n x
+yes_within n x e = (grind (arith, nat_tests), grind (arith, nat_tests))
 
-  pub held_more : Held (length rows) rows → OnOk r (new.items ≡ row.items ++ y ∷ []) → OnErr r (new ≡ row) → Held (length (set rows i new)) (set rows i new)
-  held_more held =
-      let P : ArrayVec ℕ → Type 0 = λ a. All (Within (length rows)) a.items in
-      let old : P row = subst P (sym here) (held i no_arrows at) in
-      let rest : P new → Held (length (set rows i new)) (set rows i new) = λ p. subst (λ n. Held n (set rows i new)) (sym (length-set rows i new)) (All-set P rows i new p held) in
-      elim r as (λ s. OnOk s (new.items ≡ row.items ++ y ∷ []) → OnErr s (new ≡ row) → Held (length (set rows i new)) (set rows i new)) [
-        | Ok u ↦ λ q _. rest (subst (All (Within (length rows))) (sym q) (All-push (Within (length rows)) row.items y old to))
-        | Err u ↦ λ _ q. rest (subst P (sym q) old)
-      ]
+zeros : (n x : ℕ) → ◌≡◌ {A = ℕ} (get_or (replicate n 0) x 0) 0
+zeros zero x = refl
+zeros (suc n) zero = refl
+zeros (suc n) (suc x) = zeros n x
 
-  pub drawn : (x : ℕ) (b : Bool) → x ≡ suc i → b ≡ is_ok r → (IsOk r ↔ (length row.items < 255)) → OnOk r (new.items ≡ row.items ++ y ∷ []) → OnErr r (new ≡ row) → DrawsIn x y rows (set rows i new) b
-  drawn zero b e d = cc
-  drawn (suc k) b e d = rw d (
-      let k≡i : k ≡ i = cc in
-      let was : row_of rows (suc k) ≡ row.items = ap (λ n. (get_or rows n no_arrows).items) k≡i ∙ ap (λ (a : ArrayVec ℕ). a.items) (sym here) in
-      let now : ArrayVec ℕ = record { items = row_of rows (suc k) ++ y ∷ [] } in
-      let place : i ≡ suc k - 1 = omega arith in
-      elim r as (λ s. (IsOk s ↔ (length row.items < 255)) → OnOk s (new.items ≡ row.items ++ y ∷ []) → OnErr s (new ≡ row) → DrawsIn (suc k) y rows (set rows i new) (is_ok s)) [
-        | Ok u ↦ λ fits q _.
-            let same : new ≡ now = ap (λ xs. record { items = xs }) (q ∙ ap (λ xs. xs ++ y ∷ []) (sym was)) in
-            (((omega arith, omega arith), to, omega (arith, ap length was, fits.0 refl)), ap (set rows i) same ∙ ap (λ n. set rows n now) place)
-        | Err u ↦ λ fits _ q.
-            (λ can. let h = fits.1 (omega (arith, can.2, ap length was)) in cc, ap (set rows i) (q ∙ here) ∙ set-get_or rows i no_arrows)
-      ])
+pub few_none : (m : ℕ) → Few (replicate m 0)
+few_none m x = omega (arith, zeros m x)
+
+pub held_none : (n m : ℕ) (ends : List ℕ) → Held n (replicate m 0) ends
+held_none n m ends x j w = absurd (omega (arith, w.0, w.1, zeros m x))
+
+module _ (n : ℕ) (arrows ends : List ℕ) (few : Few arrows) (held : Held n arrows ends) (wide : length arrows ≡ 256) (long : length ends ≡ 65536)
+    (x y : ℕ) (inside : x < 256) (to : Within n y) (room : get_or arrows x 0 < 255) where
+  last : ℕ
+  last = get_or arrows x 0 + 1
+
+  arrows' : List ℕ
+  arrows' = set arrows x last
+
+  ends' : List ℕ
+  ends' = set ends (256 * x + last) y
+
+  here : get_or arrows' x 0 ≡ last
+  unfolding arrows'
+  here = get_or-set_same arrows x last 0 (omega arith)
+
+  there : (u : ℕ) → u ≢ x → get_or arrows' u 0 ≡ get_or arrows u 0
+  unfolding arrows'
+  there u d = get_or-set_other arrows x u last 0 d
+
+  new : end_of ends' x last ≡ y
+  unfolding ends' last
+  new = get_or-set_same ends (256 * x + last) y 0 (omega arith)
+
+  old : (u j : ℕ) → 256 * u + j ≢ 256 * x + last → end_of ends' u j ≡ end_of ends u j
+  unfolding ends'
+  old u j d = get_or-set_other ends (256 * x + last) (256 * u + j) y 0 d
+
+  few_more' : Few arrows'
+  unfolding last
+  few_more' u = elim (cases_eq u x) [
+    | inl e ↦ let q : get_or arrows' u 0 ≡ last = ap (λ i. get_or arrows' i 0) e ∙ here in omega (arith, q)
+    | inr d ↦ omega (arith, there u d, few u)
+  ]
+
+  at_x : (j : ℕ) → Within last j → Within n (end_of ends' x j)
+  unfolding last
+  at_x j w = elim (cases_eq j last) [
+    | inl e ↦ subst (λ v. Within n v) (sym (ap (λ i. end_of ends' x i) e ∙ new)) to
+    | inr d ↦ subst (λ v. Within n v) (sym (old x j (λ q. d (omega arith)))) (held x j (w.0, omega (arith, w.1)))
+  ]
+
+  held_more' : Held n arrows' ends'
+  unfolding last
+  held_more' u j w = elim (cases_eq u x) [
+    | inl e ↦
+        let P : ℕ → Type 0 = λ v. Within (get_or arrows' v 0) j → Within n (end_of ends' v j) in
+        subst P (sym e) (λ v. at_x j (subst (λ k. Within k j) here v)) w
+    | inr d ↦
+        let v = subst (λ k. Within k j) (there u d) w in
+        let apart : 256 * u + j ≢ 256 * x + last = λ q. d (omega (arith, v.0, v.1, few u)) in
+        subst (λ z. Within n z) (sym (old u j apart)) (held u j v)
+  ]
+
+  -- one more arrow, from x to y
+  pub drawn_more : (j : ℕ) → j ≡ get_or arrows x 0 + 1 → Few (set arrows x (get_or arrows x 0 + 1)) × Held n (set arrows x (get_or arrows x 0 + 1)) (set ends (256 * x + j) y)
+  unfolding arrows' ends' last
+  drawn_more j e = subst (λ k. Few (set arrows x (get_or arrows x 0 + 1)) × Held n (set arrows x (get_or arrows x 0 + 1)) (set ends (256 * x + k) y)) (sym e) (few_more', held_more')
 
 sum_suc : (w : ℕ → ℕ) (k n : ℕ) → sum_after w k (suc n) ≡ sum_after w k n + w (k + n + 1)
 sum_suc w k zero = let e : k + 0 + 1 ≡ suc k = omega arith in let q : w (k + 0 + 1) ≡ w (suc k) = ap w e in omega (arith, q)

@@ -1,13 +1,10 @@
 -- Why a drawing is a graph, and a closed graph stays closed with its arrows in the opposite order.
-use Rattle.std.specs.Prelude.{◌≡◌, ℕ, zero, suc, ◌+◌, ◌-◌, ◌<◌, ◌≤◌, Bool, true, false, cond, List, length}
-use Rattle.std.proofs.Common.{refl, sym, ap, subst, arith}
-use Rattle.std.proofs.Math.Nat.{lt_of_not-le}
+use Rattle.std.specs.Prelude.{◌≡◌, ℕ, ◌+◌, ◌-◌, Bool, true, false, cond, ◌&&◌, List, slice_index}
+use Rattle.std.proofs.Common.{refl, sym, subst, arith}
 use Rattle.std.proofs.lemmas.Bool.Decides.{nat_tests}
-use Rattle.std.proofs.lemmas.List.{get_or_past}
-use Rattle.arrayvec.specs.ArrayVec.{ArrayVec}
 use Rattle.graph.specs.Nets.{Net, Within, CellOf, Closed, Silent}
 use Rattle.drawing.specs.Tests.{within}
-use Rattle.drawing.specs.Held.{no_arrows, row_of, Held}
+use Rattle.drawing.specs.Held.{end_of, Held}
 use Rattle.drawing.specs.Drawn.{net_of}
 use Rattle.drawing.specs.Backward.{backward_net}
 
@@ -31,20 +28,21 @@ backward_closed g closed x j w =
 pub backward_silent : (g : Net) → Silent (backward_net g)
 backward_silent g x j out = silent_outside (g.arrows x) j (g.leads x (g.arrows x - j + 1)) out
 
--- only a cell has arrows
-in_rows : (rows : List (ArrayVec ℕ)) (i : ℕ) → 1 ≤ length (row_of rows (suc i)) → i < length rows
-in_rows rows i h = lt_of_not-le (λ past. let e = ap (λ (r : ArrayVec ℕ). length r.items) (get_or_past rows i no_arrows past) in omega (arith, e))
+pub drawn_closed : (n : ℕ) (arrows ends : List ℕ) → Held n arrows ends → Closed (net_of n arrows ends)
+drawn_closed n arrows ends held x j =
+    let P : Bool → Type 0 = λ b. within n x ≡ b → Within (cond b (slice_index arrows x) 0) j → Within n x × Within n (cond (b && within (slice_index arrows x) j) (end_of ends x j) 0) in
+    (elim (within n x) as P [
+      | true ↦ λ yes w. (
+        (grind (arith, nat_tests), grind (arith, nat_tests)),
+        subst (λ b. Within n (cond b (end_of ends x j) 0)) (sym (within_yes (slice_index arrows x) j w)) (held x j w),
+      )
+      | false ↦ λ no w. absurd (omega (arith, w.0, w.1))
+    ]) refl
 
-pub drawn_closed : (rows : List (ArrayVec ℕ)) → Held (length rows) rows → Closed (net_of rows)
-drawn_closed rows held zero j w = absurd (omega (arith, w.0, w.1))
-drawn_closed rows held (suc i) zero w = absurd (omega (arith, w.0))
-drawn_closed rows held (suc i) (suc k) w =
-    let h = in_rows rows i (omega (arith, w.1)) in
-    ((omega arith, omega arith), held i no_arrows h k 0 (omega (arith, w.1)))
-
-not_above : (m n : ℕ) → (n < m → ⊥) → m ≤ n
-not_above m n h = omega arith
-
-pub drawn_silent : (rows : List (ArrayVec ℕ)) → Silent (net_of rows)
-drawn_silent rows x zero out = refl
-drawn_silent rows x (suc i) out = get_or_past (row_of rows x) i 0 (not_above (length (row_of rows x)) i (λ h. out (omega arith, omega arith)))
+pub drawn_silent : (n : ℕ) (arrows ends : List ℕ) → Silent (net_of n arrows ends)
+drawn_silent n arrows ends x j =
+    let P : Bool → Type 0 = λ b. (Within (cond b (slice_index arrows x) 0) j → ⊥) → cond (b && within (slice_index arrows x) j) (end_of ends x j) 0 ≡ 0 in
+    (elim (within n x) as P [
+      | true ↦ λ out. silent_outside (slice_index arrows x) j (end_of ends x j) out
+      | false ↦ λ out. refl
+    ])

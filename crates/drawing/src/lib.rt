@@ -1,14 +1,13 @@
 //! A graph that is drawn arrow by arrow, to try what works on every graph.
-//! It keeps by a ghost field that every arrow ends at a cell, and so it is a graph.
+//! Its tables say by ghost fields that every arrow ends at a cell, and so it is a graph.
 #![tactic(auto)]
 
-ghost use Rattle.std.specs.Prelude.{◌≡◌, ◌+◌, ◌≤◌, length, MatchOption};
+ghost use Rattle.std.specs.Prelude.{◌≡◌};
 ghost use Rattle.graph.specs.Nets.{all_arrows};
-ghost use Rattle.drawing.specs.Held.{row_of};
+ghost use Rattle.drawing.specs.Tests.{within};
 ghost use Rattle.drawing.specs.Drawn.{net_of, Blank, Draws};
 ghost use Rattle.drawing.specs.Turns.{drawn_closed, drawn_silent};
 
-use arrayvec::ArrayVec;
 use graph::Graph;
 
 pub mod backward;
@@ -25,12 +24,11 @@ impl Drawing {
     pub fn blank(count: u8) -> Drawing
         ensures { Blank count result }
     {
-        // No `collect`: a vector's takes an allocator and may fail.
-        let mut rows = ArrayVec::new();
-        for _ in 0..count {
-            rows.push(ArrayVec::new());
+        Drawing {
+            count,
+            arrows: [0; 256],
+            ends: [0; 65536],
         }
-        Drawing { rows }
     }
 
     /// Draws one more arrow, the last one of `from`; answers no and draws none if an end is no cell or `from` has 255 arrows.
@@ -38,59 +36,48 @@ impl Drawing {
     pub fn draw(&mut self, from: u8, to: u8) -> bool
         ensures { Draws from to self.old self.new result }
     {
-        let ends = (1..=self.rows.len()).contains(&usize::from(to));
-        let (true, Some(i)) = (ends, place(u16::from(from))) else {
+        let x = usize::from(from);
+        if !self.has(from) || !self.has(to) || self.arrows[x] >= 255 {
             return false;
-        };
-        match self.rows.get_mut(i) {
-            Some(row) => row.try_push(to).is_ok(),
-            None => false,
         }
+        let j = self.arrows[x] + 1;
+        self.ends[256 * x + usize::from(j)] = to;
+        self.arrows[x] = j;
+        true
     }
 
-    /// Where the arrows of a cell lead, one after the other; nowhere for what is no cell.
-    fn row(&self, cell: u8) -> &[u8]
-        ensures row { result.now ≡ row_of self.now.rows.items cell }
-        ensures short { length result.now ≤ 255 }
+    fn has(&self, cell: u8) -> bool
+        ensures { result ≡ within self.now.count cell }
     {
-        let Some(i) = place(u16::from(cell)) else {
-            return &[];
-        };
-        match self.rows.get(i) {
-            Some(row) => row.as_slice(),
-            None => &[],
-        }
+        cell >= 1 && cell <= self.count
     }
 }
 
 impl Graph<Drawn> for Drawing {
-    ghost net = { λ d. net_of d.rows.items };
+    ghost net = { λ d. net_of d.count d.arrows d.ends };
 
-    ghost closed = { λ d. drawn_closed d.rows.items d.held };
+    ghost closed = { λ d. drawn_closed d.count d.arrows d.ends d.held };
 
-    ghost silent = { λ d. drawn_silent d.rows.items };
+    ghost silent = { λ d. drawn_silent d.count d.arrows d.ends };
 
     fn cells(&self) -> u8 {
-        self.rows.len() as u8
+        self.count
     }
 
     fn arrows(&self, cell: u8) -> u16 {
-        self.row(cell).len() as u16
+        if self.has(cell) {
+            u16::from(self.arrows[usize::from(cell)])
+        } else {
+            0
+        }
     }
 
     fn leads(&self, cell: u8, j: u16) -> u8 {
-        match place(j) {
-            Some(i) => self.row(cell).get(i).copied().unwrap_or(0),
-            None => 0,
+        if !self.has(cell) || j == 0 || j > u16::from(self.arrows[usize::from(cell)]) {
+            return 0;
         }
+        self.ends[256 * usize::from(cell) + usize::from(j)]
     }
-}
-
-/// The place of what has this number, counted from 1; none for 0.
-fn place(number: u16) -> Option<usize>
-    ensures { MatchOption result (number ≡ 0) (λ i. i + 1 ≡ number) }
-{
-    usize::from(number).checked_sub(1)
 }
 
 /// The number of arrows of a graph.

@@ -2,13 +2,13 @@
 ghost use Rattle.std.specs.Prelude.{◌≡◌};
 ghost use Rattle.graph.specs.Searches.{number_of};
 
-/// Why a search is refused, in the order in which the causes are tried; each has its number.
+/// Why a search is refused, in the order in which the causes are tried.
 #[derive(Clone, Copy, PartialEq, Eq, Debug)]
 pub enum SearchRefusal {
     /// A strip is shorter than the cells; both strips stay as they are.
-    ShortStrip = 17,
+    ShortStrip,
     /// The goal is 0 or above the cells; the scratch bytes in use are zero.
-    NoCell = 8,
+    NoCell,
 }
 
 impl SearchRefusal {
@@ -16,6 +16,9 @@ impl SearchRefusal {
     pub fn number(self) -> u8
         ensures { result ≡ number_of self }
     {
-        self as u8
+        match self {
+            SearchRefusal::ShortStrip => 17,
+            SearchRefusal::NoCell => 8,
+        }
     }
 }

@@ -137,16 +137,16 @@ module _ (m : State) (s : Shape m) where
   cell_shape x q k = record { some = s.some; few = s.few; carried = s.carried; crew = s.crew; rounds = s.rounds; cells = each_set CellOk no_cell 256 m.cells x q k s.cells; workers = s.workers; sets = s.sets }
 
   root_shape : (p x : ℕ) (b : Bool) → p < 9 → Shape (set_root m p x b)
-  root_shape p x b l = let o = s.workers.1 p l in worker_shape p (with_roots (worker m p) (set (worker m p).roots x b)) (length-set (worker m p).roots x b ∙ o.0, o.1, o.2, o.3, o.4)
+  root_shape p x b l = let o = s.workers.1 p l in worker_shape p (with_roots (worker m p) (set (worker m p).roots x b)) (length-set (worker m p).roots x b ∙ o.0, o.1, o.2, o.3, o.4, o.5)
 
   box_shape : (p r x : ℕ) → p < 9 → Shape (fill_box m p r x)
-  box_shape p r x l = let o = s.workers.1 p l in worker_shape p (with_boxes (worker m p) (set (worker m p).boxes r x)) (o.0, o.1, length-set (worker m p).boxes r x ∙ o.2, o.3, o.4)
+  box_shape p r x l = let o = s.workers.1 p l in worker_shape p (with_boxes (worker m p) (set (worker m p).boxes r x)) (o.0, o.1, o.2, length-set (worker m p).boxes r x ∙ o.3, o.4, o.5)
 
   root_view : (p x : ℕ) (b : Bool) → p < 9 → x < 256 → view (set_root m p x b) ≡ called (view m) (view m).cells (root (view m) p x b) (view m).box
   root_view p x b l h = rooted_view m p (with_roots (worker m p) (set (worker m p).roots x b)) (let e = s.workers.0 in omega arith) m.cells m.round x b (let e = (s.workers.1 p l).0 in omega arith) refl refl refl
 
   box_view : (p r x : ℕ) → p < 9 → r < 9 → view (fill_box m p r x) ≡ called (view m) (view m).cells (view m).roots (boxed (view m) p r x)
-  box_view p r x l h = boxed_view m p (with_boxes (worker m p) (set (worker m p).boxes r x)) (let e = s.workers.0 in omega arith) m.cells m.round r x (let e = (s.workers.1 p l).2 in omega arith) refl refl refl
+  box_view p r x l h = boxed_view m p (with_boxes (worker m p) (set (worker m p).boxes r x)) (let e = s.workers.0 in omega arith) m.cells m.round r x (let e = (s.workers.1 p l).3 in omega arith) refl refl refl
 
   cell_view : (t : View) (x : ℕ) (q : Cell) (d : Cells) → view m ≡ t → seen_cells m.round (set m.cells x q) ≡ d → view (with_cell m x q) ≡ called t d t.roots t.box
   cell_view t x q d a b = λ i. called (a i) (b i) (a i).roots (a i).box
@@ -309,7 +309,7 @@ module _ (m : State) (s : Shape m) (v : Inv m.ncells m.nworkers (view m)) where
         crew = s.crew;
         rounds = s.rounds;
         cells = s.cells;
-        workers = each_set (WorkerOk m.ncells) no_worker 9 m.workers p u (o.0, tt, o.2, o.3, k.1.1.0) s.workers;
+        workers = each_set (WorkerOk m.ncells) no_worker 9 m.workers p u (o.0, tt, o.2, o.3, o.4, k.1.1.0) s.workers;
         sets = filled_ok m.ncells m.sets p Check s.sets;
       })
       eq

@@ -141,8 +141,8 @@ module _ (m : State) (v : Inv m.ncells m.nworkers (view m)) where
       let w : (p : ℕ) → Range m.nworkers p → WorkerOk m.ncells (worker m p) = (λ p i. s.workers.1 p (let a = i.1 in let b = s.crew in omega arith)) in (
         (λ x r. ((c x r).1, (let b = v.balance x r.0 in omega arith))),
         (λ x r. ((c x r).2, (c x r).3)),
-        (λ p i. (w p i).3),
-        (s.rounds, (λ x r. (c x r).4), (λ p i. let o = (w p i).4 in omega arith)),
+        (λ p i. (w p i).4),
+        (s.rounds, (λ x r. (c x r).4), (λ p i. let o = (w p i).5 in omega arith)),
       )
 
   safe_now : NoFreeCellLive now
@@ -234,7 +234,7 @@ first_shape n w r top a b c d = record {
   crew = c.1;
   rounds = d.1;
   cells = (refl, λ k h. subst CellOk (sym (get_or-replicate 256 k (free r) no_cell h)) (refl, omega arith, omega arith, omega arith, d.1));
-  workers = (refl, λ k h. subst (WorkerOk n) (sym (get_or-replicate 9 k resting no_worker h)) (refl, tt, refl, omega arith, omega arith));
+  workers = (refl, λ k h. subst (WorkerOk n) (sym (get_or-replicate 9 k resting no_worker h)) (refl, tt, refl, refl, omega arith, omega arith));
   sets = λ p k c e. absurd (let z : ◌≡◌ {A = Bool} false true = e in grind arith);
 }
 

@@ -1,5 +1,5 @@
 -- A step with the lowest member taken, as a function; it is a step of the rules.
-use Rattle.std.proofs.Common.{[], ◌≡◌, ℕ, zero, suc, ◌+◌, ◌<◌, ◌≤◌, Bool, true, false, cond, eqb, Some, None, Ok, MatchBool, Option, refl, ap, ◌∙◌, subst, inl, inr, arith}
+use Rattle.std.proofs.Common.{◌≡◌, ℕ, zero, suc, ◌+◌, ◌<◌, ◌≤◌, Bool, true, false, cond, eqb, Some, None, Ok, MatchBool, Option, refl, ap, ◌∙◌, subst, inl, inr, arith}
 use Rattle.lists.specs.Sets.{Sets, Took, struck}
 use Rattle.lists.specs.declared.waiting.Set.{Set}
 use Rattle.lists.specs.declared.waiting.Set.TheVariants.{Check, Start, Follow}
@@ -47,7 +47,7 @@ next_at L108 s p = to L101 (goes (scanning s p (worker s p).x) p L101)
 next_at L121 s p = to L122 (goes (with_sets s (filled_with_all s p Start (filled_with_all s p Check s.sets))) p L122)
 next_at L122 s p = draws Start holding_x L126 L129 s p
 next_at L126 s p = to (cond (is_source (cell s (worker s p).x).father) L150 L122) (goes s p (cond (is_source (cell s (worker s p).x).father) L150 L122))
-next_at L150 s p = to L151 (with_worker (with_sets s (following_alone s p (worker s p).x)) p (at_label (with_stack (worker s p) []) L151))
+next_at L150 s p = to L151 (with_worker (with_sets s (following_alone s p (worker s p).x)) p (at_label (with_stack (worker s p) 0 (worker s p).stack) L151))
 next_at L151 s p = draws Follow holding_w L157 L168 s p
 next_at L157 s p = cond (grey_and_fresh s p (worker s p).w) (to L158 (with_worker s p (at_label (copying s (worker s p)) L158))) (to L151 (goes s p L151))
 next_at L158 s p =

@@ -1,5 +1,5 @@
 -- The store seen as functions, as the theory has it.
-use Rattle.std.proofs.Common.{ℕ, suc, ◌+◌, ◌-◌, Bool, false, List, length, reverse, get_or}
+use Rattle.std.proofs.Common.{ℕ, zero, suc, ◌+◌, ◌-◌, Bool, false, List, [], ◌∷◌, get_or}
 use Rattle.lists.specs.Sets.{Sets}
 use Rattle.lists.specs.declared.waiting.Set.{Set}
 use Rattle.lists.specs.declared.waiting.Set.TheVariants.{Check, Start, Follow}
@@ -30,6 +30,11 @@ parent Nobody = none
 parent Source = source
 parent (Under w) = under w
 
+-- the top first
+abbrev pub stacked : List ℕ → ℕ → List ℕ
+stacked xs zero = []
+stacked xs (suc d) = get_or xs d 0 ∷ stacked xs d
+
 -- where a worker stands: the copies still to be looked at, and those after the one that is looked at
 abbrev pub stand : Label → ℕ → ℕ → ℕ → List ℕ → List ℕ → Stand
 stand Idle x y v rest after = idle
@@ -53,13 +58,13 @@ stand L137 x y v rest after = l137
 
 -- the copies from number j on
 abbrev pub copies_from : Worker → ℕ → List ℕ
-copies_from k j = copies (λ i. get_or k.copies.items (i - 1) 0) j (suc (length k.copies.items) - j)
+copies_from k j = copies (λ i. get_or k.copies (i - 1) 0) j (suc k.copied - j)
 
 abbrev pub stand_of : Label → Worker → Stand
 stand_of l k = stand l k.x k.y k.w (copies_from k k.j) (copies_from k (k.j + 1))
 
 abbrev pub seen_worker : (Set → ℕ → Bool) → Worker → Walker
-seen_worker sets k = record { own = k.own; label = stand_of k.label k; check = sets Check; start = sets Start; follow = sets Follow; stack = reverse k.stack.items }
+seen_worker sets k = record { own = k.own; label = stand_of k.label k; check = sets Check; start = sets Start; follow = sets Follow; stack = stacked k.stack k.depth }
 
 abbrev pub seen_cells : ℕ → List Cell → Cells
 seen_cells r xs = record {

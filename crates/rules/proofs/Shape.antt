@@ -54,7 +54,7 @@ Held n x L135 = Unit {0}
 Held n x L137 = Unit {0}
 
 abbrev pub WorkerOk : ℕ → Worker → Type 0
-WorkerOk n w = (length w.roots ≡ 256) × Held n w.x w.label × (length w.boxes ≡ 9) × (length w.stack.items ≤ n) × (w.own < 4294967294)
+WorkerOk n w = (length w.roots ≡ 256) × Held n w.x w.label × (length w.stack ≡ 256) × (length w.boxes ≡ 9) × (w.depth ≤ n) × (w.own < 4294967294)
 
 abbrev pub SetsOk : ℕ → Sets → Type 0
 SetsOk n s = (p : ℕ) (k : Set) (c : ℕ) → s p k c ≡ true → Range n c

@@ -1,6 +1,5 @@
 -- A step or a call on the model is a move of the theory.
-use Rattle.std.proofs.Common.{◌≡◌, ℕ, zero, suc, ◌+◌, ◌-◌, ◌<◌, ◌≤◌, Bool, true, false, cond, not, ◌&&◌, ◌||◌, eqb, ltb, leb, ◌⊎◌, List, [], ◌∷◌, ◌++◌, length, get_or, take, reverse, set, Some, None, MatchBool, Option, sym, refl, ap, ◌∙◌, subst, inl, inr, add-one, arith}
-use Rattle.std.proofs.lemmas.List.{take_all, take_more, reverse-append, length-reverse, length-append, length-take-le, get_or-take, nil_from_length}
+use Rattle.std.proofs.Common.{◌≡◌, ℕ, zero, suc, ◌+◌, ◌-◌, ◌<◌, ◌≤◌, Bool, true, false, cond, not, ◌&&◌, ◌||◌, eqb, ltb, leb, ◌⊎◌, List, [], ◌∷◌, length, get_or, set, Some, None, MatchBool, Option, sym, refl, ap, ◌∙◌, subst, inl, inr, add-one, arith, length-set, get_or-set_other, get_or-set_same}
 use Rattle.std.proofs.lemmas.Bool.Decides.{nat_tests, leb_tells}
 use Rattle.lists.specs.Sets.{Sets, filled, struck, cleared, added, takes, Took}
 use Rattle.lists.specs.Sets.{in_range}
@@ -19,7 +18,7 @@ use Rattle.rules.specs.Workers.{no_worker}
 use Rattle.rules.specs.States.{State, cell, worker, with_cell, with_worker, with_sets, with_round}
 use Rattle.rules.specs.Cells.{is_grey, is_source, with_colour, with_father}
 use Rattle.rules.specs.Workers.{at_label, holding_x, holding_w, holding_y, at_copy, with_copies, with_stack}
-use Rattle.rules.proofs.Seen.{view, shade, parent, stand_of, copies_from, seen_worker, seen_cells}
+use Rattle.rules.proofs.Seen.{view, shade, parent, stand_of, copies_from, stacked, seen_worker, seen_cells}
 use Rattle.rules.specs.Rounds.{in_step, grey_and_fresh, goes, filled_with_all, drawn, next_of, Draws, scanned, scanning, copy_left, copy, looked, unclaimed, claims, claimed, stack_left, unstacked, painted, StepsAt}
 use Rattle.rules.proofs.Views.{made_of, moved_view}
 use Rattle.rules.proofs.SeenChanges.{see_paint, see_white, see_scan, see_claim}
@@ -85,12 +84,9 @@ nought : (n : ℕ) → (ltb 0 n ≡ true → ⊥) → n ≡ 0
 nought zero h = refl
 nought (suc n) h = absurd (h (grind arith))
 
--- the cell put last is the top
-stack_top : (xs : List ℕ) → 0 < length xs → reverse xs ≡ get_or xs (length xs - 1) 0 ∷ reverse (take (length xs - 1) xs)
-stack_top xs h =
-    let n : length xs ≡ length xs - 1 + 1 = omega arith in
-    ap reverse (sym (take_all (length xs) xs (omega arith)) ∙ (ap (λ (k : ℕ). take k xs) n ∙ take_more xs (length xs - 1) 0 (omega arith)))
-    ∙ reverse-append (take (length xs - 1) xs) (get_or xs (length xs - 1) 0 ∷ [])
+stack_top : (xs : List ℕ) (d : ℕ) → 0 < d → stacked xs d ≡ get_or xs (d - 1) 0 ∷ stacked xs (d - 1)
+stack_top xs zero h = absurd (omega arith)
+stack_top xs (suc d) h = ap (λ (k : ℕ). get_or xs k 0 ∷ stacked xs k) (let e : d ≡ suc d - 1 = omega arith in e)
 
 same_kids : {In : ℕ → Type 0} {c d : Cells} → Effect In c d → ◌≡◌ {A = ℕ → List ℕ} (λ x. copies (d.place x) 1 (d.arity x)) (λ x. copies (c.place x) 1 (c.arity x))
 same_kids e_same = refl
@@ -116,22 +112,31 @@ bools : (P : Bool → Type 0) (b : Bool) → (b ≡ true → P true) → (b ≡ 
 bools P true f g = f refl
 bools P false f g = g refl
 
-rest_next : (u : Worker) → u.j ≤ length u.copies.items → copies_from u u.j ≡ copy u ∷ copies_from u (u.j + 1)
+stacked_set : (xs : List ℕ) (e v d : ℕ) → d ≤ e → stacked (set xs e v) d ≡ stacked xs d
+stacked_set xs e v zero h = refl
+stacked_set xs e v (suc d) h = ap (λ (z : ℕ). z ∷ stacked (set xs e v) d) (get_or-set_other xs e d v 0 (λ p. omega arith)) ∙ ap (λ (l : List ℕ). get_or xs d 0 ∷ l) (stacked_set xs e v d (omega arith))
+
+stacked_push : (xs : List ℕ) (d v : ℕ) → d < length xs → stacked (set xs d v) (d + 1) ≡ v ∷ stacked xs d
+stacked_push xs d v h = ap (stacked (set xs d v)) (add-one d) ∙ (ap (λ (z : ℕ). z ∷ stacked (set xs d v) d) (get_or-set_same xs d v 0 h) ∙ ap (λ (l : List ℕ). v ∷ l) (stacked_set xs d v d (omega arith)))
+
+stacked_length : (xs : List ℕ) (d : ℕ) → length (stacked xs d) ≡ d
+stacked_length xs zero = refl
+stacked_length xs (suc d) = ap suc (stacked_length xs d)
+
+rest_next : (u : Worker) → u.j ≤ u.copied → copies_from u u.j ≡ copy u ∷ copies_from u (u.j + 1)
 rest_next u h =
-    let f : ℕ → ℕ = (λ i. get_or u.copies.items (i - 1) 0) in
-    let n = length u.copies.items in
-    ap (copies f u.j) (let e : suc n - u.j ≡ suc (suc n - (u.j + 1)) = omega arith in e)
-    ∙ ap (λ (k : ℕ). f u.j ∷ copies f k (suc n - (u.j + 1))) (sym (add-one u.j))
+    let f : ℕ → ℕ = (λ i. get_or u.copies (i - 1) 0) in
+    ap (copies f u.j) (let e : suc u.copied - u.j ≡ suc (suc u.copied - (u.j + 1)) = omega arith in e)
+    ∙ ap (λ (k : ℕ). f u.j ∷ copies f k (suc u.copied - (u.j + 1))) (sym (add-one u.j))
 
-copies_same : (f g : ℕ → ℕ) (k n : ℕ) → ((i : ℕ) → i < k + n → f (suc i) ≡ g (suc i)) → copies f (suc k) n ≡ copies g (suc k) n
-copies_same f g k zero e = refl
-copies_same f g k (suc n) e = ap (λ (z : ℕ). z ∷ copies f (suc (suc k)) n) (e k (omega arith)) ∙ ap (λ (l : List ℕ). g (suc k) ∷ l) (copies_same f g (suc k) n (λ i h. e i (omega arith)))
+copies_same : (f g : ℕ → ℕ) → ((k : ℕ) → f (suc k) ≡ g (suc k)) → (k n : ℕ) → copies f (suc k) n ≡ copies g (suc k) n
+copies_same f g e k zero = refl
+copies_same f g e k (suc n) = ap (λ (z : ℕ). z ∷ copies f (suc (suc k)) n) (e k) ∙ ap (λ (l : List ℕ). g (suc k) ∷ l) (copies_same f g e (suc k) n)
 
-copies_whole : (xs : List ℕ) (n : ℕ) → n ≤ length xs → copies (from1 xs 0) 1 n ≡ copies (λ i. get_or (take n xs) (i - 1) 0) 1 (suc (length (take n xs)) - 1)
-copies_whole xs n h =
-    copies_same (from1 xs 0) (λ i. get_or (take n xs) (i - 1) 0) 0 n
-    (λ k l. sym (get_or-take n xs k 0 (omega arith)) ∙ ap (λ (i : ℕ). get_or (take n xs) i 0) (let e : k ≡ suc k - 1 = omega arith in e))
-    ∙ ap (copies (λ i. get_or (take n xs) (i - 1) 0) 1) (omega (arith, length-take-le n xs h))
+copies_whole : (xs : List ℕ) (n : ℕ) → copies (from1 xs 0) 1 n ≡ copies (λ i. get_or xs (i - 1) 0) 1 (suc n - 1)
+copies_whole xs n =
+    copies_same (from1 xs 0) (λ i. get_or xs (i - 1) 0) (λ k. ap (λ (i : ℕ). get_or xs i 0) (let e : k ≡ suc k - 1 = omega arith in e)) 0 n
+    ∙ ap (copies (λ i. get_or xs (i - 1) 0) 1) (let e : n ≡ suc n - 1 = omega arith in e)
 
 at_most_no : (a b : ℕ) → (leb a b ≡ true → ⊥) → suc b - a ≡ 0
 at_most_no a b h = elim (leb_tells a b) [ inl e ↦ absurd (h e.0) | inr e ↦ (let e1 = e.1 in omega arith) ]
@@ -169,10 +174,10 @@ module _ (m : State) (s : Shape m) (v : Inv m.ncells m.nworkers (view m)) (p : �
 
   -- the sizes of a worker's tables, and its numbers within their limits
   abbrev Fits : Worker → ℕ → Type 0
-  Fits u r = (length u.boxes ≡ 9) × (length u.stack.items ≤ m.ncells) × (u.own < 4294967294) × (r ≤ 4294967294)
+  Fits u r = (length u.stack ≡ 256) × (length u.boxes ≡ 9) × (u.depth ≤ m.ncells) × (u.own < 4294967294) × (r ≤ 4294967294)
 
   pub stk : Fits w m.round
-  stk = ((s.workers.1 p in9).2, (s.workers.1 p in9).3, (s.workers.1 p in9).4, s.rounds)
+  stk = ((s.workers.1 p in9).2, (s.workers.1 p in9).3, (s.workers.1 p in9).4, (s.workers.1 p in9).5, s.rounds)
 
   pub went : (u : Worker) (cs : List Cell) (r : ℕ) (sets : Sets) → u.roots ≡ w.roots → u.boxes ≡ w.boxes → Fits u r → ((q : ℕ) → (q ≡ p → ⊥) → ◌≡◌ {A = Set → ℕ → Bool} (sets q) (m.sets q))
       → Each CellOk no_cell 256 cs → Held m.ncells u.x u.label → SetsOk m.ncells sets
@@ -186,9 +191,9 @@ module _ (m : State) (s : Shape m) (v : Inv m.ncells m.nworkers (view m)) (p : �
           few = s.few;
           carried = s.carried;
           crew = s.crew;
-          rounds = z.3;
+          rounds = z.4;
           cells = c;
-          workers = each_set (WorkerOk m.ncells) no_worker 9 m.workers p u (ap length e ∙ (s.workers.1 p in9).0, h, z.0, z.1, z.2) s.workers;
+          workers = each_set (WorkerOk m.ncells) no_worker 9 m.workers p u (ap length e ∙ (s.workers.1 p in9).0, h, z.0, z.1, z.2, z.3) s.workers;
           sets = k;
         };
         cells_n = refl;
@@ -310,16 +315,16 @@ module _ (m : State) (s : Shape m) (v : Inv m.ncells m.nworkers (view m)) (p : �
       (subst (Goes C) q (a151_take lab (eq_yes _ _ b) h.0.0)))
 
   abbrev pushed : Worker
-  pushed = at_label (at_copy (with_copies (with_stack w (w.stack.items ++ w.w ∷ [])) (take (cell m w.w).first (cell m w.w).places)) 1) L158
+  pushed = at_label (at_copy (with_copies (with_stack w (w.depth + 1) (set w.stack w.depth w.w)) (cell m w.w).first (cell m w.w).places) 1) L158
 
-  pushed157 : W.label ≡ l157 w.x w.w → GreyFresh C W w.w → length w.stack.items + 1 ≤ m.ncells → To (with_worker m p pushed)
+  pushed157 : W.label ≡ l157 w.x w.w → GreyFresh C W w.w → (w.depth < 255) × (w.depth + 1 ≤ m.ncells) → To (with_worker m p pushed)
   pushed157 lab g d =
-      let c = cell m w.w in let o = s.cells.1 w.w (in256 w.w (grey_in w.w g)) in
-      let st = reverse-append w.stack.items (w.w ∷ []) in
-      let cs = copies_whole c.places c.first (omega (arith, o.0, o.3)) in
+      let c = cell m w.w in let k = stk.0 in let d0 = d.0 in
+      let st = stacked_push w.stack w.depth w.w (omega arith) in
+      let cs = copies_whole c.places c.first in
       let q : with_walk W W.check W.follow (w.w ∷ W.stack) (l158 w.x w.w (copies (C.place w.w) 1 (C.first w.w))) ≡ seen_worker (m.sets p) pushed =
       (λ j. record { own = w.own; label = l158 w.x w.w (cs j); check = W.check; start = W.start; follow = W.follow; stack = sym st j }) in
-      went pushed m.cells m.round m.sets refl refl (stk.0, omega (arith, d, length-append w.stack.items (w.w ∷ [])), stk.2, stk.3) (λ z n. refl) s.cells tt s.sets (subst (Goes C) q (a157_go lab g))
+      went pushed m.cells m.round m.sets refl refl (length-set w.stack w.depth w.w ∙ stk.0, stk.1, d.1, stk.3, stk.4) (λ z n. refl) s.cells tt s.sets (subst (Goes C) q (a157_go lab g))
 
   abbrev looked163 : Worker
   looked163 = at_label (at_copy w (w.j + 1)) L158
@@ -345,7 +350,7 @@ module _ (m : State) (s : Shape m) (v : Inv m.ncells m.nworkers (view m)) (p : �
       let lab = ap (λ (l : Label). stand_of l w) e in
       let held : Range m.ncells w.x = subst (Held m.ncells w.x) e (s.workers.1 p in9).1 in
       retold (goes (scanning m p w.x) p L101) m' h.0 (cases (λ (k : State). To (goes k p L101)) (eqb (cell m w.x).round w.own) (with_cell m w.x (scanned (cell m w.x) w.own)) m
-      (λ b. let o = s.cells.1 w.x (in256 w.x held) in wrote_cell L101 w.x (scanned (cell m w.x) w.own) (o.0, o.1, o.2, o.2, (let z = stk.2 in omega arith)) tt
+      (λ b. let o = s.cells.1 w.x (in256 w.x held) in wrote_cell L101 w.x (scanned (cell m w.x) w.own) (o.0, o.1, o.2, o.2, (let z = stk.3 in omega arith)) tt
       (subst (λ (d : Cells). Goes d (goto W l101)) (sym (see_scan m.round m.cells w.x (in_cs w.x held) w.own)) (a108_scan lab held (eq_yes _ _ b))))
       (λ b. plain L101 tt (a108_skip lab held (eq_no _ _ b))))
   steps aa L121 next m' e h = retold _ m' (h.0 ∙ ap (λ (t : Sets). goes (with_sets m t) p L122) (all_ok Start (filled_with_all m p Check m.sets) ∙ ap (λ (t : Sets). filled t p Start m.ncells) (all_ok Check m.sets))) (to121 e)
@@ -357,7 +362,7 @@ module _ (m : State) (s : Shape m) (v : Inv m.ncells m.nworkers (view m)) (p : �
   steps aa L150 next m' e h =
       let x = w.x in let r : Range m.ncells x = subst (Held m.ncells x) e (s.workers.1 p in9).1 in
       let s1 = struck m.sets p Check x in let s2 = cleared s1 p Follow in let s3 = added s2 p Follow x in
-      let u = at_label (with_stack w []) L151 in
+      let u = at_label (with_stack w 0 w.stack) L151 in
       let q1 = at_set m.sets p Check (λ c. not (eqb c x) && m.sets p Check c) in let q2 = at_set s1 p Follow (λ c. false) in
       let q : seen_worker (s3 p) u ≡ with_walk W (upd W.check x false) (upd no_cells x true) [] (l151 x) =
       ap (λ (ss : Set → ℕ → Bool). seen_worker ss u) (at_set s2 p Follow (λ c. eqb c x || s2 p Follow c))
@@ -365,7 +370,7 @@ module _ (m : State) (s : Shape m) (v : Inv m.ncells m.nworkers (view m)) (p : �
       ∙ ((λ j. record { own = w.own; label = l151 x; check = q1 j Check; start = q1 j Start; follow = λ c. eqb c x || false; stack = [] })
       ∙ (λ j. record { own = w.own; label = l151 x; check = struck_is (m.sets p Check) x j; start = m.sets p Start; follow = put_is no_cells x j; stack = [] }))) in
       retold _ m' (h.0 ∙ ap (λ (b : Bool). with_sets (with_worker m p u) (cond b s3 s2)) (taken_all x r))
-      (went u m.cells m.round s3 refl refl (stk.0, omega arith, stk.2, stk.3) (λ z n. off_set s2 p Follow _ z n ∙ (off_set s1 p Follow _ z n ∙ off_set m.sets p Check _ z n)) s.cells tt
+      (went u m.cells m.round s3 refl refl (stk.0, stk.1, omega arith, stk.3, stk.4) (λ z n. off_set s2 p Follow _ z n ∙ (off_set s1 p Follow _ z n ∙ off_set m.sets p Check _ z n)) s.cells tt
       (put_ok m.ncells s2 p Follow x r (cleared_ok m.ncells s1 p Follow (struck_ok m.ncells m.sets p Check x s.sets)))
       (subst (Goes C) (sym q) (a150 (ap (λ (l : Label). stand_of l w) e))))
   steps aa L151 next m' e h = when (in_step m p)
@@ -376,22 +381,20 @@ module _ (m : State) (s : Shape m) (v : Inv m.ncells m.nworkers (view m)) (p : �
       when (grey_and_fresh m p w.w)
       (λ b k. let g = fresh_yes w.w b in
       let l = room m.ncells C W w.x w.w v.global lab (aa p) g in
-      let n = length w.stack.items in
-      let z = length-reverse w.stack.items in
-      let d : n < 255 = (let y = s.few in omega arith) in
-      retold _ m' (k.0 ∙ ap (λ (t : Bool). with_worker m p (at_label (at_copy (with_copies (cond t (with_stack w (w.stack.items ++ w.w ∷ [])) w) (take (cell m w.w).first (cell m w.w).places)) 1) L158)) (yes_less _ _ d))
-      (pushed157 lab g (omega arith)))
+      let d : w.depth < 255 = (let z = stacked_length w.stack w.depth in let y = s.few in omega arith) in
+      retold _ m' (k.0 ∙ ap (λ (t : Bool). with_worker m p (at_label (at_copy (with_copies (cond t (with_stack w (w.depth + 1) (set w.stack w.depth w.w)) w) (cell m w.w).first (cell m w.w).places) 1) L158)) (yes_less _ _ d))
+      (pushed157 lab g (d, (let z = stacked_length w.stack w.depth in omega arith))))
       (λ b k. retold _ m' k.0 (plain L151 tt (a157_no lab (fresh_no w.w b)))) h
   steps aa L158 next m' e h =
       let lab = ap (λ (l : Label). stand_of l w) e in
       when (copy_left m p)
-      (λ b k. let c = both (in_step m p) (leb w.j (length w.copies.items)) b in let ins = eq_yes _ _ c.0 in
+      (λ b k. let c = both (in_step m p) (leb w.j w.copied) b in let ins = eq_yes _ _ c.0 in
       let lab2 = lab ∙ ap (l158 w.x w.w) (rest_next w (at_most_yes _ _ c.1)) in
       retold _ m' k.0 (bools (λ (k : Bool). To (looked m p k)) (m.sets p Check (copy w))
       (λ t. went (at_label (holding_y w (copy w)) L163) m.cells m.round m.sets refl refl stk (λ z n. refl) s.cells tt s.sets (a158_in lab2 ins t))
       (λ t. went (at_label (at_copy (holding_y w (copy w)) (w.j + 1)) L158) m.cells m.round m.sets refl refl stk (λ z n. refl) s.cells tt s.sets (a158_out lab2 ins t))))
       (λ b k. retold _ m' k.0 (plain L151 tt (a158_end lab
-      (λ q. ap (copies (λ i. get_or w.copies.items (i - 1) 0) w.j) (at_most_no w.j (length w.copies.items) (λ t. not_both (in_step m p) (leb w.j (length w.copies.items)) b (grind arith) t)))))) h
+      (λ q. ap (copies (λ i. get_or w.copies (i - 1) 0) w.j) (at_most_no w.j w.copied (λ t. not_both (in_step m p) (leb w.j w.copied) b (grind arith) t)))))) h
   steps aa L163 next m' e h =
       let lab = ap (λ (l : Label). stand_of l w) e in let y = w.y in
       retold _ m' h.0 (cases (λ (k : State). To (with_worker k p looked163)) (claims m p) (claimed m p y) m
@@ -403,9 +406,9 @@ module _ (m : State) (s : Shape m) (v : Inv m.ncells m.nworkers (view m)) (p : �
   steps aa L168 next m' e h =
       let lab = ap (λ (l : Label). stand_of l w) e in
       when (stack_left m p)
-      (λ b k. let c = both (in_step m p) (ltb 0 (length w.stack.items)) b in
-      retold _ m' k.0 (went (at_label (unstacked w) L175) m.cells m.round m.sets refl refl (stk.0, (let z = stk.1 in omega (arith, length-take-le (length w.stack.items - 1) w.stack.items (omega arith))), stk.2, stk.3) (λ z n. refl) s.cells tt s.sets (a168_pop lab (eq_yes _ _ c.0) (stack_top w.stack.items (positive _ c.1)))))
-      (λ b k. retold _ m' k.0 (plain L180 tt (a168_none lab (λ q. ap reverse (nil_from_length w.stack.items (nought (length w.stack.items) (λ t. not_both (in_step m p) (ltb 0 (length w.stack.items)) b (grind arith) t))))))) h
+      (λ b k. let c = both (in_step m p) (ltb 0 w.depth) b in
+      retold _ m' k.0 (went (at_label (unstacked w) L175) m.cells m.round m.sets refl refl (stk.0, stk.1, (let z = stk.2 in omega arith), stk.3, stk.4) (λ z n. refl) s.cells tt s.sets (a168_pop lab (eq_yes _ _ c.0) (stack_top w.stack w.depth (positive _ c.1)))))
+      (λ b k. retold _ m' k.0 (plain L180 tt (a168_none lab (λ q. ap (stacked w.stack) (nought w.depth (λ t. not_both (in_step m p) (ltb 0 w.depth) b (grind arith) t)))))) h
   steps aa L175 next m' e h =
       let lab = ap (λ (l : Label). stand_of l w) e in
       retold _ m' h.0 (cases (λ (k : State). To (goes k p L168)) (grey_and_fresh m p w.y) (with_cell m w.y (painted (cell m w.y))) m
@@ -425,7 +428,7 @@ module _ (m : State) (s : Shape m) (v : Inv m.ncells m.nworkers (view m)) (p : �
   steps aa L135 next m' e h =
       let lab = ap (λ (l : Label). stand_of l w) e in
       retold _ m' h.0 (cases (λ (k : State). To (goes k p L137)) (in_step m p) (with_round m (m.round + 1)) m
-      (λ b. went (at_label w L137) m.cells (m.round + 1) m.sets refl refl (stk.0, stk.1, stk.2, (let z = stk.2 in let q = eq_yes _ _ b in omega arith)) (λ z n. refl) s.cells tt s.sets
+      (λ b. went (at_label w L137) m.cells (m.round + 1) m.sets refl refl (stk.0, stk.1, stk.2, stk.3, (let z = stk.3 in let q = eq_yes _ _ b in omega arith)) (λ z n. refl) s.cells tt s.sets
       (subst (λ (r : ℕ). Goes (seen_cells r m.cells) (goto W l137)) (sym (add-one m.round)) (a135_turn lab (eq_yes _ _ b))))
       (λ b. plain L137 tt (a135_no lab (eq_no _ _ b))))
   steps aa L137 next m' e h = retold _ m' h.0 (plain Idle tt (a137 (ap (λ (l : Label). stand_of l w) e)))

@@ -1,5 +1,5 @@
 -- The limits of the counts, the stacks and the rounds. Assumes nothing.
-use Rattle.std.specs.Prelude.{ℕ, ◌≤◌, length}
+use Rattle.std.specs.Prelude.{ℕ, ◌≤◌}
 use Rattle.rules.specs.States.{cell, worker, HasCell, HasWorker}
 use Rattle.rules.specs.Laws.{Moment}
 
@@ -17,7 +17,7 @@ ChildrenWithin limit m =
 
 -- no stack is deeper than there are cells
 abbrev pub StacksFit : Moment → Type 0
-StacksFit m = (p : ℕ) → HasWorker m.store p → length (worker m.store p).stack.items ≤ m.store.ncells
+StacksFit m = (p : ℕ) → HasWorker m.store p → (worker m.store p).depth ≤ m.store.ncells
 
 -- the round number, the cells' rounds and the workers' own rounds do not pass the limit
 abbrev pub RoundsWithin : ℕ → Moment → Type 0

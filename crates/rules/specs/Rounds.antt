@@ -1,5 +1,5 @@
 -- The labelled steps of a round, one by one in the order of a round, and Step and Run. Assumes nothing.
-use Rattle.std.specs.Prelude.{◌≡◌, ℕ, ◌+◌, ◌-◌, ◌<◌, ◌≤◌, Bool, true, false, cond, ◌&&◌, List, [], ◌∷◌, ◌++◌, length, take, Some, None, Ok, Err, MatchBool, Option, Result, ◌==◌, nat_le, nat_lt, slice_index}
+use Rattle.std.specs.Prelude.{◌≡◌, ℕ, ◌+◌, ◌-◌, ◌<◌, ◌≤◌, Bool, true, false, cond, ◌&&◌, List, [], ◌∷◌, length, Some, None, Ok, Err, MatchBool, Option, Result, ◌==◌, nat_le, nat_lt, slice_index, slice_set}
 use Rattle.lists.specs.Sets.{Sets, Took, after_fill, cleared, after_put, struck}
 use Rattle.lists.specs.declared.waiting.Set.{Set}
 use Rattle.lists.specs.declared.waiting.Set.TheVariants.{Check, Start, Follow}
@@ -84,18 +84,18 @@ following_alone s p x = after_put s.top (cleared (struck s.sets p Check x) p Fol
 -- say that its limit is never met
 
 abbrev pub stacked : Worker → ℕ → Worker
-stacked k x = cond (nat_lt (length k.stack.items) 255) (with_stack k (k.stack.items ++ x ∷ [])) k
+stacked k x = cond (nat_lt k.depth 255) (with_stack k (k.depth + 1) (slice_set k.stack k.depth x)) k
 
 abbrev pub copying : State → Worker → Worker
-copying s k = at_copy (with_copies (stacked k k.w) (take (cell s k.w).first (cell s k.w).places)) 1
+copying s k = at_copy (with_copies (stacked k k.w) (cell s k.w).first (cell s k.w).places) 1
 
 -- 158: in step and j at most the number copied: y is copy j
 
 abbrev pub copy_left : State → ℕ → Bool
-copy_left s p = in_step s p && nat_le (worker s p).j (length (worker s p).copies.items)
+copy_left s p = in_step s p && nat_le (worker s p).j (worker s p).copied
 
 abbrev pub copy : Worker → ℕ
-copy k = slice_index k.copies.items (k.j - 1)
+copy k = slice_index k.copies (k.j - 1)
 
 abbrev pub looked : State → ℕ → Bool → State
 looked s p true = with_worker s p (at_label (holding_y (worker s p) (copy (worker s p))) L163)
@@ -118,10 +118,10 @@ claimed s p y =
 -- 168: in step and the stack not empty: its top comes off as y
 
 abbrev pub stack_left : State → ℕ → Bool
-stack_left s p = in_step s p && nat_lt 0 (length (worker s p).stack.items)
+stack_left s p = in_step s p && nat_lt 0 (worker s p).depth
 
 abbrev pub unstacked : Worker → Worker
-unstacked k = with_stack (holding_y k (slice_index k.stack.items (length k.stack.items - 1))) (take (length k.stack.items - 1) k.stack.items)
+unstacked k = with_stack (holding_y k (slice_index k.stack (k.depth - 1))) (k.depth - 1) k.stack
 
 -- 175: if y is grey and fresh, its put-off count is taken from its source count and becomes 0, and y turns black
 
@@ -143,7 +143,7 @@ StepsAt L122 s p next t = Draws Start holding_x L126 L129 s p next t
 -- 126: if x's father is 0: to 150. Else 122
 StepsAt L126 s p next t = To s p (cond (is_source (cell s (worker s p).x).father) L150 L122) next t
 -- 150: start the walk at x; to 151
-StepsAt L150 s p next t = Becomes (with_sets s (following_alone s p (worker s p).x)) p (with_stack (worker s p) []) L151 next t
+StepsAt L150 s p next t = Becomes (with_sets s (following_alone s p (worker s p).x)) p (with_stack (worker s p) 0 (worker s p).stack) L151 next t
 -- 151: in step and Take on follow gives w: to 157. Else 168
 StepsAt L151 s p next t = Draws Follow holding_w L157 L168 s p next t
 -- 157: if w is grey and fresh, copy and stack it; to 158. Else 151

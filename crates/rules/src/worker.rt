@@ -1,5 +1,3 @@
-use arrayvec::ArrayVec;
-
 /// Where a worker stands: idle, or at a label of a round.
 #[derive(Clone, Copy, PartialEq, Eq, Debug)]
 pub enum Label {
@@ -41,7 +39,7 @@ pub enum Label {
 }
 
 /// A worker: its roots and boxes, and where it stands in a round with what it holds there.
-#[derive(Clone, Debug, Drop)]
+#[derive(Clone, Copy, Debug)]
 pub struct Worker {
     pub label: Label,
     /// The round number when its round began.
@@ -55,10 +53,13 @@ pub struct Worker {
     pub y: u8,
     /// The number of the next copy, from 1.
     pub j: u8,
-    /// The children that were copied at 157.
-    pub copies: ArrayVec<u8, 8>,
-    /// The cells that are stacked, the top last.
-    pub stack: ArrayVec<u8, 255>,
+    // No vectors of the copies and the stack: a worker is `Copy`, and no vector is.
+    /// How many copies there are.
+    pub copied: u8,
+    pub copies: [u8; 8],
+    /// How many cells are stacked.
+    pub depth: u8,
+    pub stack: [u8; 256],
     /// Which cells are roots, by their numbers, which begin at 1 as those of the workers do.
     pub roots: [bool; 256],
     /// What the box to each worker holds, by its number; 0 for nothing. No `Option`: 0 names no cell, here
