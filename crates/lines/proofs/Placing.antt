@@ -1,10 +1,12 @@
--- A line kept in a vector of 255 places: there is room for a newcomer, who leaves it leaves one place, and what the marks are after each.
-use Rattle.std.proofs.Common.{◌≡◌, ℕ, zero, suc, ◌+◌, ◌<◌, ◌≤◌, Bool, true, false, cond, not, ◌&&◌, ◌||◌, eqb, leb, List, [], ◌∷◌, ◌++◌, length, get_or, Some, sym, refl, ap, ◌∙◌, inl, inr, arith}
+-- A line kept in an array of 255 places: there is room for a newcomer, who leaves it leaves one place, and what the marks are after each.
+use Rattle.std.proofs.Common.{◌≡◌, ℕ, zero, suc, ◌+◌, ◌-◌, ◌<◌, ◌≤◌, Bool, true, false, cond, not, ◌&&◌, ◌||◌, eqb, leb, List, [], ◌∷◌, ◌++◌, length, get_or, take, drop, Some, sym, refl, ap, ◌∙◌, inl, inr, arith, length-drop, length-take-le, take-take}
 use Rattle.std.specs.Prelude.{◌==◌, None, position, remove}
+use lib.Seq.{paste}
 use Rattle.std.specs.List.{AllByRecursion, IsDistinct, list_any, position_or_len}
 use Rattle.std.proofs.lemmas.Map.Steps.{length-le_from_distinct_below}
 use Rattle.std.proofs.lemmas.List.Quantifiers.{position-Some}
-use Rattle.std.proofs.lemmas.List.{length_push}
+use Rattle.std.proofs.lemmas.List.{length_push, drop-take}
+use Rattle.std.proofs.lemmas.List.Edits.{take-paste}
 use Rattle.std.proofs.lemmas.Bool.Decides.{nat_tests, eqb_tells, leb_tells}
 use Rattle.lines.specs.Numbers.{in_range}
 use Rattle.lines.specs.Lines.{in_line, orderly, without}
@@ -100,3 +102,32 @@ left_place n l x i h at =
     let found = position-Some (λ y. y == x) l i 0 (sym at) in
     let is : get_or l i 0 ≡ x = let e = found.1 in grind (arith, nat_tests) in
     gone n l i h found.0 ∙ ap (without l) is
+
+module _ (cells : List ℕ) (count : ℕ) (long : length cells ≡ 255) (fits : count ≤ 255) where
+  length_kept : length (take count cells) ≡ count
+  length_kept = length-take-le count cells (omega arith)
+
+  -- so the place after the last is one of the array's
+  pub free : (x : ℕ) → orderly 255 (take count cells) ≡ true → in_range x 255 ≡ true → in_line x (take count cells) ≡ false → count < 255
+  free x h fit out = let few = room (take count cells) x h fit out in let n = length_kept in omega arith
+
+  -- a found place is one of the line's
+  kept : (x i : ℕ) → Some i ≡ position (λ y. y == x) (take count cells) → i < count
+  kept x i at = let found = position-Some (λ y. y == x) (take count cells) i 0 (sym at) in let lt = found.0 in let n = length_kept in omega arith
+
+  -- the cells after a place moved down by one: the one there has left
+  pub closed : (x i : ℕ) → orderly 255 (take count cells) ≡ true → Some i ≡ position (λ y. y == x) (take count cells) → take (count - 1) (paste cells i (drop (i + 1) cells) (count - (i + 1))) ≡ without (take count cells) x
+  closed x i h at =
+      let lt = kept x i at in
+      let n = length-drop (i + 1) cells in
+      let whole : count - 1 ≡ i + (count - (i + 1)) = omega arith in
+      let all : i + 1 + (count - (i + 1)) ≡ count = omega arith in
+      let next : i + 1 ≡ suc i = omega arith in
+      let rest : take (count - (i + 1)) (drop (i + 1) cells) ≡ drop (suc i) (take count cells) =
+      sym (drop-take (i + 1) (count - (i + 1)) cells) ∙ ap (λ k. drop (i + 1) (take k cells)) all ∙ ap (λ k. drop k (take count cells)) next in
+      let front : take i cells ≡ take i (take count cells) = sym (take-take i count cells (omega arith)) in
+      ap (λ k. take k (paste cells i (drop (i + 1) cells) (count - (i + 1)))) whole
+      ∙ take-paste cells i (drop (i + 1) cells) (count - (i + 1)) (omega arith) (omega arith)
+      ∙ ap (λ t. t ++ take (count - (i + 1)) (drop (i + 1) cells)) front
+      ∙ ap (λ t. take i (take count cells) ++ t) rest
+      ∙ left_place 255 (take count cells) x i h at

@@ -1,5 +1,5 @@
 -- Binary digits: what setting or clearing one does to the numbers that words hold, and where the lowest digit stands.
-use Rattle.std.specs.Prelude.{◌≡◌, ℕ, zero, suc, ◌+◌, ◌*◌, ◌/◌, ◌%◌, ◌^◌, ◌<◌, ◌≤◌, Bool, true, false, cond, ◌&&◌, ◌≢◌, List, [], ◌∷◌, length, Some, ◌==◌, bit_or, bit_and, nat_eq, slice_index, slice_index_or, slice_set, refl}
+use Rattle.std.specs.Prelude.{◌≡◌, ℕ, zero, suc, ◌+◌, ◌*◌, ◌/◌, ◌%◌, ◌^◌, ◌<◌, ◌≤◌, Bool, true, false, cond, not, ◌&&◌, ◌≢◌, List, [], ◌∷◌, length, Some, ◌==◌, bit_or, bit_and, nat_eq, slice_index, slice_index_or, slice_set, refl}
 use Rattle.std.proofs.Common.{w64, sym, ap₂, ◌∙◌, inl, inr, arith, get_or-set_same, get_or-set_other}
 use Rattle.std.proofs.Math.Path.{ap}
 use Rattle.std.specs.Int.{bit_not}
@@ -104,6 +104,13 @@ zero_words = none_held (0 ∷ 0 ∷ 0 ∷ 0 ∷ []) refl zeros
     zeros (suc (suc zero)) lt = refl
     zeros (suc (suc (suc zero))) lt = refl
     zeros (suc (suc (suc (suc i)))) lt = refl
+
+-- a stranger's removal changes nothing
+pub not_held : (ws : List ℕ) (x : ℕ) → held ws x ≡ false → HeldBut ws x ws
+not_held ws x out c = elim (eqb_tells c x) [
+  | inl e ↦ let e0 = e.0 in let out' : held ws c ≡ false = ap (held ws) e.1 ∙ out in out' ∙ sym (ap (λ b. not b && held ws c) e0)
+  | inr e ↦ sym (ap (λ b. not b && held ws c) e.0)
+]
 
 pub and_no : (b : Bool) → (b && false) ≡ false
 and_no true = refl

@@ -117,6 +117,16 @@ orderly_without n (y ∷ l) x h =
       | inr e ↦ ap (λ b. orderly n (cond (not b) (y ∷ without l x) (without l x))) e.0 ∙ (let e0 = e.0 in grind (arith, nat_tests))
     ]
 
+-- a line without the highest number
+pub orderly_lower : (n : ℕ) (l : List ℕ) → orderly (suc n) l ≡ true → in_line (suc n) l ≡ false → orderly n l ≡ true
+orderly_lower n [] h out = refl
+orderly_lower n (y ∷ l) h out =
+    let h' : orderly (suc n) l ≡ true = grind (arith, nat_tests) in
+    let out' : in_line (suc n) l ≡ false = grind (arith, nat_tests) in
+    let apart : nat_eq (suc n) y ≡ false = grind (arith, nat_tests) in
+    let ih = orderly_lower n l h' out' in
+    grind (arith, nat_tests)
+
 -- at the end, the newcomer and all others stand
 pub at_end_adds : (l : List ℕ) (x c : ℕ) → in_line c (at_end l x) ≡ (c == x || in_line c l)
 at_end_adds l x c = in_append c l (x ∷ []) ∙ (grind (arith, nat_tests))

@@ -5,7 +5,7 @@ ghost use Rattle.lines.specs.Numbers.{Bounded};
 ghost use Rattle.lines.specs.Lines.{Joining, in_line, orderly, after_put_line, without, first};
 
 /// One set of cell numbers. A kind of set is told by where a newcomer joins its line.
-pub trait CellSet: Sized + Clone {
+pub trait CellSet: Sized + Copy {
     /// The highest cell number that the kind can carry.
     const HIGHEST: u8;
 

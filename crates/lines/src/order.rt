@@ -1,6 +1,6 @@
 //! The members of a set of the numbers 1 to 255, in the order in which they were put; a bit for each says whether it is there.
 
-ghost use Rattle.std.specs.Prelude.{◌≡◌, ℕ, true, reverse, ◌==◌, position};
+ghost use Rattle.std.specs.Prelude.{◌≡◌, ℕ, ◌≤◌, true, length, take, reverse, ◌==◌, position};
 ghost use Rattle.lines.specs.Bits.{held};
 ghost use Rattle.lines.specs.Lines.{in_line, orderly, at_end, first};
 ghost use Rattle.lines.specs.Numbers.{bounded_255};
@@ -8,32 +8,30 @@ ghost use Rattle.lines.specs.InLine.{at_end_adds};
 
 use crate::bit_set::BitSet;
 use crate::cell_set::CellSet;
-use arrayvec::ArrayVec;
 use std::alloc::AllocError;
 
 /// A set of the numbers 1 to 255 that knows the order in which they were put: the member put first is next.
 // No `impl Model`, here and at `BitSet`: a law of `CellSet` holds for every value of the type, and with a model any list would be one.
-#[derive(Drop)]
+// The cells in an array beside their count, since no vector is `Copy`.
+#[derive(Copy)]
 pub struct Order {
-    cells: ArrayVec<u8, 255>,
+    cells: [u8; 255],
+    count: usize,
     marks: BitSet,
-    ghost stands: { orderly 255 cells.items ≡ true },
-    ghost marked: { (c : ℕ) → held marks.words c ≡ in_line c cells.items },
+    ghost long: { length cells ≡ 255 },
+    ghost fits: { count ≤ 255 },
+    ghost stands: { orderly 255 (take count cells) ≡ true },
+    ghost marked: { (c : ℕ) → held marks.words c ≡ in_line c (take count cells) },
 }
 
-// By hand: a struct with a ghost field derives no `Clone` without `Copy`, and no vector is `Copy`.
+// By hand, to say what a clone is: the same value.
 impl Clone for Order {
-    ghost use Rattle.lines.specs.Orders.{order};
-
-    ghost is_clone = { λ s t. order t ≡ order s };
+    ghost is_clone = { λ s t. t ≡ s };
 
     ghost is_infallible = { λ _. Unit {0} };
 
     fn clone(&self) -> Result<Self, AllocError> {
-        Ok(Order {
-            cells: self.cells.clone()?,
-            marks: self.marks,
-        })
+        Ok(*self)
     }
 }
 
@@ -56,14 +54,16 @@ impl CellSet for Order {
 
     fn empty() -> Self {
         Order {
-            cells: ArrayVec::new(),
+            cells: [0; 255],
+            count: 0,
             marks: BitSet::empty(),
         }
     }
 
     fn put(&mut self, cell: u8) {
         if cell >= 1 && !self.marks.contains(cell) {
-            self.cells.push(cell);
+            self.cells[self.count] = cell;
+            self.count += 1;
             self.marks.insert(cell);
         }
     }
@@ -73,7 +73,8 @@ impl CellSet for Order {
             return;
         }
         if let Some(place) = self.place_of(cell) {
-            self.cells.remove(place);
+            self.cells.copy_within(place + 1..self.count, place);
+            self.count -= 1;
             self.marks.remove(cell);
         }
     }
@@ -83,7 +84,7 @@ impl CellSet for Order {
     }
 
     fn next(&self) -> Option<u8> {
-        self.cells.first().copied()
+        self.line().first().copied()
     }
 }
 
@@ -94,13 +95,20 @@ impl Order {
     pub fn put_last(&self) -> Option<u8>
         ensures { result ≡ first (reverse (order self.now)) }
     {
-        self.cells.last().copied()
+        self.line().last().copied()
+    }
+
+    // The members, in the order in which they were put.
+    fn line(&self) -> &[u8]
+        ensures { result.now ≡ order self.now }
+    {
+        &self.cells[..self.count]
     }
 
     // The place of a member in the order.
     fn place_of(&self, cell: u8) -> Option<usize>
         ensures { result ≡ position (λ other. other == cell) (order self.now) }
     {
-        self.cells.iter().position(|other| *other == cell)
+        self.line().iter().position(|other| *other == cell)
     }
 }

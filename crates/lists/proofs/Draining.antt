@@ -96,14 +96,8 @@ pub record Drawing (n w : ℕ) (k : Set) (start now : Sets) (old new : List ℕ)
   pub later : drop n new ≡ drop n old
   pub long : length new ≡ 255
 
--- a Fill that was answered can
-was_filled : (top w : ℕ) (k : Set) (n : ℕ) (before start : Sets) → true ≡ takes top w n → start ≡ after_fill top before w k n → start ≡ filled before w k n
-was_filled top w k n before start can is = is ∙ sym (chosen (takes top w n) (filled before w k n) before (sym can))
-
-pub begins : (top n w : ℕ) (k : Set) (before start : Sets) (old : List ℕ) → top ≤ 255 → length old ≡ 255 → true ≡ takes top w n → start ≡ after_fill top before w k n → Drawing n w k start start old old 0
-begins top n w k before start old low long can filled_is =
-    let is = was_filled top w k n before start can filled_is in
-    let limit : n ≤ 255 = grind (arith, nat_tests) in
+pub begins : (n w : ℕ) (k : Set) (before start : Sets) (old : List ℕ) → n ≤ 255 → length old ≡ 255 → start ≡ filled before w k n → Drawing n w k start start old old 0
+begins n w k before start old limit long is =
     let told_here : (c : ℕ) → start w k c ≡ in_range c n = λ c. ap (λ s. s w k c) is ∙ here before w k (λ c. in_range c n) c in
     record {
       others = sym (itself start w k);
@@ -113,6 +107,15 @@ begins top n w k before start old low long can filled_is =
       later = refl;
       long = long;
     }
+
+-- a Fill that was answered can
+was_filled : (top w : ℕ) (k : Set) (n : ℕ) (before start : Sets) → true ≡ takes top w n → start ≡ after_fill top before w k n → start ≡ filled before w k n
+was_filled top w k n before start can is = is ∙ sym (chosen (takes top w n) (filled before w k n) before (sym can))
+
+pub begins_after_fill : (top n w : ℕ) (k : Set) (before start : Sets) (old : List ℕ) → top ≤ 255 → length old ≡ 255 → true ≡ takes top w n → start ≡ after_fill top before w k n → Drawing n w k start start old old 0
+begins_after_fill top n w k before start old low long can is =
+    let limit : n ≤ 255 = grind (arith, nat_tests) in
+    begins n w k before start old limit long (was_filled top w k n before start can is)
 
 module _ {n w : ℕ} {k : Set} {start now next : Sets} {old new : List ℕ} {count x : ℕ} (h : Drawing n w k start now old new count) (member : now w k x ≡ true) (is : next ≡ struck now w k x) where
   in_it : in_range x n ≡ true
@@ -187,16 +190,14 @@ module _ {n w : ℕ} {k : Set} {start now : Sets} {old new : List ℕ} {count : 
   all : count ≡ n
   all = let s = h.sum in let z = size_none (now w k) 255 none in omega arith
 
-  each : (c : ℕ) → times c (take n new) ≡ one (in_range c n)
+  pub each : (c : ℕ) → times c (take n new) ≡ one (in_range c n)
   each c = let o = h.once c in let z : one (now w k c) ≡ 0 = ap one (none c) in ap (λ m. times c (take m new)) (sym all) ∙ (omega arith)
 
   pub drained : Drained true n old new
   drained = (each, h.later)
 
-  pub emptied : (top : ℕ) (before : Sets) → true ≡ takes top w n → start ≡ after_fill top before w k n → now ≡ after_drain top before w k n
-  emptied top before can is =
-      h.others
-      ∙ ap (with_set start w k) (fun_ext none)
-      ∙ ap (λ s. with_set s w k (λ _. false)) (was_filled top w k n before start can is)
-      ∙ twice before w k (λ c. in_range c n) (λ _. false)
-      ∙ chosen (takes top w n) (cleared before w k) before (sym can)
+  pub emptied : (before : Sets) → start ≡ filled before w k n → now ≡ cleared before w k
+  emptied before is = h.others ∙ ap (with_set start w k) (fun_ext none) ∙ ap (λ s. with_set s w k (λ _. false)) is ∙ twice before w k (λ c. in_range c n) (λ _. false)
+
+  pub emptied_after_fill : (top : ℕ) (before : Sets) → true ≡ takes top w n → start ≡ after_fill top before w k n → now ≡ after_drain top before w k n
+  emptied_after_fill top before can is = emptied before (was_filled top w k n before start can is) ∙ chosen (takes top w n) (cleared before w k) before (sym can)

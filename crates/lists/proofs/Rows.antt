@@ -48,6 +48,19 @@ found i w k =
     same : Some i ≡ Some (place w k) → i ≡ place w k
     same h = cc
 
+pub missing : (w : ℕ) (k : Set) → None ≡ row w k → is_worker w ≡ false
+missing w k =
+    let P : Bool → Type 0 = λ b. None ≡ cond b (Some (place w k)) None → b ≡ false in
+    elim (is_worker w) as P [ true ↦ λ h. absurd (none (place w k) (sym h)) | false ↦ λ h. refl ]
+
+-- Fill and Put are answered yes
+pub may : (top i w : ℕ) (k : Set) (n : ℕ) → Some i ≡ row w k → true ≡ in_range n top → takes top w n ≡ true
+may top i w k n at in_it = ap (λ b. b && in_range n top) (found i w k at).0 ∙ sym in_it
+
+-- or no
+pub may_not : (top i w : ℕ) (k : Set) (n : ℕ) → Some i ≡ row w k → false ≡ in_range n top → takes top w n ≡ false
+may_not top i w k n at in_it = ap (λ b. b && in_range n top) (found i w k at).0 ∙ sym in_it
+
 -- what the row of a set and a cell tells
 pub named : (top i x w : ℕ) (k : Set) (c : ℕ) → Some (i, x) ≡ row_with top w k c → (takes top w c ≡ true) × (Some i ≡ row w k) × (x ≡ c)
 named top i x w k c =

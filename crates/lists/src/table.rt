@@ -1,13 +1,12 @@
 //! A table of 24 sets of one kind: waiting lists, whatever the kind.
 
-ghost use Rattle.std.specs.Prelude.{◌≡◌, ℕ, ◌≤◌};
+ghost use Rattle.std.specs.Prelude.{◌≡◌, ℕ, ◌≤◌, []};
 ghost use Rattle.lines.specs.Lines.{counted, in_line};
 ghost use Rattle.lists.specs.Sets.{takes, cleared, after_fill, after_put, struck, Took};
 ghost use Rattle.lists.specs.Tables.{row, row_with, lines, members, members_within, no_lines, after_fill_lines, after_clear_lines, after_put_lines, after_strike_lines, TookFirst};
 
 use crate::waiting::{Set, WaitingLists};
 use lines::cell_set::CellSet;
-use std::array;
 
 /// A set for each of the workers 1 to 8 and each of a worker's three sets.
 // No `impl Model`: its value would be the lines, a function of worker and set, of which the check finds no code. One table of
@@ -38,16 +37,15 @@ fn row_and_cell<S: CellSet>(worker: u8, set: Set, cell: u16) -> Option<(usize, u
     Some((row_of(worker, set)?, cell))
 }
 
-// The set into which 1, 2, up to `n` were put in turn.
-fn counted_to<S: CellSet>(n: u8) -> S
-    requires { n ≤ S.HIGHEST }
-    ensures { S.line result ≡ counted S.joins n }
+// Puts 1, 2, up to `n` in turn into an empty set. By reference, since a set that is given back is copied once more.
+fn counted_to<S: CellSet>(cells: &mut S, n: u8)
+    requires carried { n ≤ S.HIGHEST }
+    requires empty { S.line cells.old ≡ [] }
+    ensures { S.line cells.new ≡ counted S.joins n }
 {
-    let mut cells = S::empty();
     for cell in 1..=n {
         cells.put(cell);
     }
-    cells
 }
 
 impl<S: CellSet> Table<S> {
@@ -55,9 +53,8 @@ impl<S: CellSet> Table<S> {
     pub fn new() -> Self
         ensures { lines S.line result ≡ no_lines }
     {
-        Table {
-            rows: array::from_fn(|_| S::empty()),
-        }
+        let empty = S::empty();
+        Table { rows: [empty; 24] }
     }
 }
 
@@ -102,7 +99,9 @@ impl<S: CellSet> WaitingLists for Table<S> {
         let Some((row, n)) = row_and_cell::<S>(worker, set, n) else {
             return false;
         };
-        self.rows[row] = counted_to(n);
+        let mut cells = S::empty();
+        counted_to(&mut cells, n);
+        self.rows[row] = cells;
         true
     }
 

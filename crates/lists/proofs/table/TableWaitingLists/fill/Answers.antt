@@ -13,7 +13,7 @@ returns g c =
     let ls = rows_lines line t in
     let h = named top i c.in-Some.n w k n c.in-Some.ensures in
     let new = counted joins n in
-    let order = writes line t i w k c.counted_to.result new h.1 (search rules) (c.counted_to.ensures ∙ ap (counted joins) h.2)
+    let order = writes line t i w k c.counted_to.new.cells new h.1 (search rules) (c.counted_to.ensures ∙ ap (counted joins) h.2)
     ∙ chosen (takes top w n) (with_line ls w k new) ls h.0 in
     record {
       answer = sym h.0;
