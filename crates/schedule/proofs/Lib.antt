@@ -8,5 +8,6 @@ pub mod Unique
 pub mod Sofar
 pub mod Back
 pub mod Puts
+pub mod Spelling
 pub mod Rows
 pub mod Rewritten

@@ -1,5 +1,5 @@
 -- What holds of a reader after some calls: the invariant of reading a whole schedule.
-use Rattle.std.proofs.Common.{◌≡◌, ℕ, ◌+◌, List, [], ◌∷◌, ◌++◌, map, length, Some, None, Ok, Option, Result, sym, refl, ap, ◌∙◌, subst, append_assoc, append-nil, arith, Err, inr}
+use Rattle.std.proofs.Common.{◌≡◌, ℕ, ◌+◌, ◌<◌, List, [], ◌∷◌, ◌++◌, map, length, Some, None, Ok, Option, Result, sym, refl, ap, ◌∙◌, subst, append_assoc, append-nil, arith, Err, inr}
 use Rattle.std.proofs.lemmas.List.{length-append, length_push}
 use Rattle.schedule.specs.declared.call.Call.{Call}
 use Rattle.schedule.specs.declared.call.Call.TheVariants.{Create, AddChild, GetChild, Make, Protect, UnProtect, Send, Receive, Begin, Step, Run}
@@ -12,6 +12,7 @@ use Rattle.schedule.specs.Reading.{Written, tests}
 use Rattle.schedule.specs.Progress.{Progress, Sized, Goes, AdvancesFrom, Advances, Onward}
 use Rattle.schedule.specs.Whole.{AllWritten, last_worker, ReadSoFar, FaultAt}
 use Rattle.schedule.specs.Tests.{FailsFirst}
+use Rattle.schedule.proofs.Advance.{less}
 
 pub record At (bs : List ℕ) (o : Opening) (p : Progress) (cs : List Call) : Type 0 where
   pub sized : Sized bs
@@ -107,3 +108,10 @@ at_fault bs o p q cs e a h =
         },
       ),
     )
+
+-- a call that was read leaves fewer bytes to read
+pub falls : (p q : Progress) (c : Call) → Advances p q (Ok (Some c)) → length q.rest < length p.rest
+falls p q c h = by_opening p.opening h where
+  by_opening : (x : Option Opening) → AdvancesFrom x p q (Ok (Some c)) → length q.rest < length p.rest
+  by_opening (Some o) on = omega (arith, less p.before p.rest c q.rest on.read)
+  by_opening None e = let k = e.0 in let z : ◌≡◌ {A = ℕ} 0 1 = cc in absurd (omega arith)

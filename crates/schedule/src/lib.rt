@@ -10,6 +10,5 @@ pub mod fault;
 pub mod operation;
 pub mod reader;
 mod record;
-mod spell;
 pub mod whole;
 pub mod write;

@@ -34,7 +34,9 @@ impl<'a> Model for Reader<'a> {
 impl<'a> Reader<'a> {
     /// How many records were read.
     pub fn records(&self) -> u16
-        ensures { result ≡ self.now.records }
+        ensures value { result ≡ self.now.records }
+        ensures within { self.now.place + length self.now.rest ≤ 4096 }
+        ensures few { 2 * self.now.records + 6 ≤ self.now.place }
     {
         self.records
     }

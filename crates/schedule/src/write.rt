@@ -1,5 +1,6 @@
 ghost use Rattle.std.specs.Prelude.{◌≡◌, ◌+◌, ◌≤◌, min, length, None, MatchResult};
-ghost use Rattle.schedule.specs.Format.{records_bytes};
+ghost use Rattle.schedule.specs.Calls.{Writable};
+ghost use Rattle.schedule.specs.Format.{when, record_bytes, records_bytes};
 ghost use Rattle.schedule.specs.Strip.{put};
 ghost use Rattle.schedule.specs.Tests.{FailsFirst};
 ghost use Rattle.schedule.specs.Whole.{AllWritable};
@@ -7,7 +8,8 @@ ghost use Rattle.schedule.specs.Writing.{records_tests, Writes, WrittenReadsBack
 
 use crate::call::{Call, CallRecord, Opening};
 use crate::fault::Fault;
-use crate::spell::spell;
+use crate::operation::Operation;
+use crate::record::Fields;
 
 /// Writes a row of bytes at a place, and answers the place after it.
 fn put_all(strip: &mut [u8], at: usize, bytes: &[u8]) -> usize
@@ -20,6 +22,56 @@ fn put_all(strip: &mut [u8], at: usize, bytes: &[u8]) -> usize
     end
 }
 
+/// Writes a row of bytes if it is wanted, and answers the place after it.
+fn put_if(strip: &mut [u8], at: usize, wanted: bool, part: &[u8]) -> usize
+    requires { at + length (when wanted part.now) ≤ length strip.old }
+    ensures next { result ≡ at + length (when wanted part.now) }
+    ensures after { strip.new ≡ put at (when wanted part.now) strip.old }
+{
+    if wanted { put_all(strip, at, part) } else { at }
+}
+
+/// How many bytes a record that can be written takes, after a record of the worker `before`. The sizes of
+/// its parts are added up: no byte is made only to be counted.
+fn record_length(before: Option<u8>, record: &CallRecord) -> usize
+    requires { Writable «record».now }
+    ensures value { result ≡ length (record_bytes before «record».now) }
+    ensures short { result ≤ 16 }
+{
+    let operation = Operation::try_from(record.operation).unwrap();
+    let fields = Fields::of(operation);
+    let given = before != Some(record.worker);
+    let list = if fields.list {
+        1 + usize::from(record.list.count)
+    } else {
+        0
+    };
+    2 + usize::from(given)
+        + usize::from(fields.cell)
+        + usize::from(fields.second)
+        + list
+        + 2 * usize::from(fields.steps)
+}
+
+/// Writes a record that can be written, after a record of the worker `before`: each part goes straight into
+/// the strip, after the part before it.
+fn put_record(strip: &mut [u8], at: usize, before: Option<u8>, record: &CallRecord) -> usize
+    requires { (Writable «record».now) × (at + length (record_bytes before «record».now) ≤ length strip.old) }
+    ensures next { result ≡ at + length (record_bytes before «record».now) }
+    ensures after { strip.new ≡ put at (record_bytes before «record».now) strip.old }
+{
+    let operation = Operation::try_from(record.operation).unwrap();
+    let fields = Fields::of(operation);
+    let given = before != Some(record.worker);
+    let at = put_all(strip, at, &[fields.map(given), record.operation]);
+    let at = put_if(strip, at, given, &[record.worker]);
+    let at = put_if(strip, at, fields.cell, &[record.cell]);
+    let at = put_if(strip, at, fields.second, &[record.second]);
+    let at = put_if(strip, at, fields.list, &[record.list.count]);
+    let at = put_if(strip, at, fields.list, record.list.as_slice());
+    put_if(strip, at, fields.steps, &record.steps.to_be_bytes())
+}
+
 /// Tests each record in order, and answers the length of their schedule, or 4,097 where it is longer: a
 /// later record's fault comes before that of the length, and so no sum wraps.
 fn measure(records: &[CallRecord]) -> Result<usize, Fault>
@@ -29,7 +81,7 @@ fn measure(records: &[CallRecord]) -> Result<usize, Fault>
     let mut before = None;
     for record in records {
         Call::try_from(*record)?;
-        total = (total + spell(before, record).len()).min(4097);
+        total = (total + record_length(before, record)).min(4097);
         before = Some(record.worker);
     }
     Ok(total)
@@ -45,7 +97,7 @@ fn put_records(strip: &mut [u8], at: usize, records: &[CallRecord]) -> usize
     let mut place = at;
     let mut before = None;
     for record in records {
-        place = put_all(strip, place, spell(before, record).as_slice());
+        place = put_record(strip, place, before, record);
         before = Some(record.worker);
     }
     place

@@ -9,14 +9,17 @@ use schedule::whole::{ReadError, Schedule, read};
 use schedule::write::write;
 use std::alloc::{AllocError, Global};
 
-/// The bytes of hex words, two digits a byte.
+/// The bytes of hex words, two digits a byte. A loop and no `try_collect`: each item would have room for a
+/// whole error.
 fn bytes_of(heap: Global, text: &str) -> anyhow::Result<Vec<u8>> {
-    text.split(' ')
-        .map(|word| -> anyhow::Result<u8> {
-            let [byte] = <[u8; 1]>::from_hex(word).map_err(|_| anyhow!("not a hex byte"))?;
-            Ok(byte)
-        })
-        .try_collect(heap)
+    let mut bytes = Vec::new(heap);
+    for word in text.split(' ') {
+        match <[u8; 1]>::from_hex(word) {
+            Ok(byte) => bytes.push(byte[0])?,
+            Err(_) => return Err(anyhow!("not a hex byte")),
+        }
+    }
+    Ok(bytes)
 }
 
 /// Whether the schedule, written again, has the bytes that it was read from.

@@ -1,5 +1,5 @@
 -- Each turn tests one record and adds its size.
-use Rattle.std.proofs.Common.{◌+◌, List, length, get_or, drop, sym, ap, subst, arith}
+use Rattle.std.proofs.Common.{◌+◌, List, get_or, drop, sym, subst, arith}
 use Rattle.std.proofs.lemmas.List.{drop_more}
 use Rattle.schedule.specs.declared.call.CallRecord.{CallRecord}
 use Rattle.schedule.specs.Calls.{record_tests}
@@ -21,5 +21,5 @@ loop-record-preserved c =
           c.loop-record.invariant.0 f (subst P (sym e) (fails_after (record_tests x) (records_tests rest) f ok h))),
       (λ good. c.loop-record.invariant.1 (subst AllWritable (sym e) (ok, good))),
       omega (arith, c.min-total.ensures),
-      omega (arith, c.min-total.ensures, split_length c.loop-record.before (drop i xs) x rest e, c.loop-record.invariant.3, ap length (c.spell.ensures)),
+      omega (arith, c.min-total.ensures, split_length c.loop-record.before (drop i xs) x rest e, c.loop-record.invariant.3, c.record_length.ensures.value),
     )
