@@ -3,6 +3,7 @@ ghost use Rattle.std.specs.Prelude.{◌≡◌};
 ghost use Rattle.graph.specs.Searches.{number_of};
 
 /// Why a search is refused, in the order in which the causes are tried.
+// As numbers the variants stay 0 and 1, by which a caller may index; `number()` tells 17 and 8.
 #[derive(Clone, Copy, PartialEq, Eq, Debug)]
 pub enum SearchRefusal {
     /// A strip is shorter than the cells; both strips stay as they are.

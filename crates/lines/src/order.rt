@@ -24,7 +24,7 @@ pub struct Order {
     ghost marked: { (c : ℕ) → held marks.words c ≡ in_line c (take count cells) },
 }
 
-// By hand, to say what a clone is: the same value.
+// By hand, so that it is read and tried here: a clone is the same value, and never fails.
 impl Clone for Order {
     ghost is_clone = { λ s t. t ≡ s };
 

@@ -56,9 +56,11 @@ pub struct Worker {
     // No vectors of the copies and the stack: a worker is `Copy`, and no vector is.
     /// How many copies there are.
     pub copied: u8,
+    /// The children that were copied at 157.
     pub copies: [u8; 8],
     /// How many cells are stacked.
     pub depth: u8,
+    /// The cells that are stacked, the top last.
     pub stack: [u8; 256],
     /// Which cells are roots, by their numbers, which begin at 1 as those of the workers do.
     pub roots: [bool; 256],
